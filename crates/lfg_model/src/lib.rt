@@ -1,0 +1,7 @@
+//! What the commands are to do: the definitions of derivations, readings and output, with the
+//! plain types that they name.
+#![tactic(auto)]
+
+mod status;
+
+pub use status::{GrammarFault, Status};

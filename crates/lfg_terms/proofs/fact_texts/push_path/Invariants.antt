@@ -1,0 +1,6 @@
+use Rattle.std.proofs.Common.{◌≡◌, ◌++◌, drop}
+use Rattle.lfg_terms.specs.FactTexts.{path_text}
+use Rattle.lfg_terms.proofs.fact_texts.push_path.Given as goal
+
+abbrev pub invariant-loop-name : goal.invariant-loop-name
+invariant-loop-name l = l.text.items ++ path_text (drop l.name-index l.name-items) ≡ l.initial.text.items ++ path_text l.name-items

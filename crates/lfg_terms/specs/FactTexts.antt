@@ -1,0 +1,64 @@
+-- The texts of nodes, arguments and facts.
+use Rattle.std.specs.Prelude.{ℕ, ◌+◌, List, [], ◌∷◌, ◌++◌, Option, Some, None, decimal, position, IsSome}
+use Rattle.std.specs.Ordering.{eq_by_cmp}
+use Rattle.lfg_terms.specs.Order.{node_cmp}
+use Rattle.lfg_terms.specs.declared.node.Node.{Node, out-Node}
+use Rattle.lfg_terms.specs.declared.node.Arg.{Arg, out-Arg}
+use Rattle.lfg_terms.specs.declared.node.Arg.TheOpen.{Node-F, Arg-F}
+use Rattle.lfg_terms.specs.declared.node.Arg.TheOpen as layer
+use Rattle.lfg_terms.specs.declared.node.Fact.{Fact}
+use Rattle.lfg_terms.specs.Texts.{name_text, edge_text}
+
+-- each attribute behind a slash
+abbrev pub path_text : List (List ℕ) → List ℕ
+path_text [] = []
+path_text (name ∷ names) = 47 ∷ name_text name ++ path_text names
+
+-- where the node first stands in the table
+abbrev pub place_in : List Node → Node → Option ℕ
+place_in table n = position (eq_by_cmp node_cmp n) table
+
+-- a hash and the number, counted from 1
+abbrev pub number_text : Option ℕ → List ℕ
+number_text None = []
+number_text (Some k) = 35 ∷ decimal (k + 1)
+
+abbrev pub layer_text : Option ℕ → Node-F Arg Node → List ℕ
+layer_text place (layer.At edge path) = edge_text edge ++ path_text path
+layer_text place (layer.New rule var binding) = number_text place
+
+abbrev pub node_text : List Node → Node → List ℕ
+node_text table n = layer_text (place_in table n) (out-Node n)
+
+abbrev pub arg_layer_text : List Node → Arg-F Arg Node → List ℕ
+arg_layer_text table (layer.Atom name) = name_text name
+arg_layer_text table (layer.Node node) = node_text table node
+
+abbrev pub arg_text : List Node → Arg → List ℕ
+arg_text table x = arg_layer_text table (out-Arg x)
+
+abbrev pub rest_text : List Node → List Arg → List ℕ
+rest_text table [] = 41 ∷ []
+rest_text table (x ∷ xs) = 44 ∷ arg_text table x ++ rest_text table xs
+
+abbrev pub args_text : List Node → List Arg → List ℕ
+args_text table [] = 41 ∷ []
+args_text table (x ∷ xs) = arg_text table x ++ rest_text table xs
+
+abbrev pub fact_text : List Node → Fact → List ℕ
+fact_text table fact = name_text fact.rel ++ 40 ∷ args_text table fact.args
+
+-- a new node stands in the table
+abbrev pub IsListedLayer : Option ℕ → Node-F Arg Node → Type 0
+IsListedLayer place (layer.At edge path) = Unit {0}
+IsListedLayer place (layer.New rule var binding) = IsSome place
+
+abbrev pub IsListed : List Node → Node → Type 0
+IsListed table n = IsListedLayer (place_in table n) (out-Node n)
+
+abbrev pub IsListedArgLayer : List Node → Arg-F Arg Node → Type 0
+IsListedArgLayer table (layer.Atom name) = Unit {0}
+IsListedArgLayer table (layer.Node node) = IsListed table node
+
+abbrev pub IsListedArg : List Node → Arg → Type 0
+IsListedArg table x = IsListedArgLayer table (out-Arg x)

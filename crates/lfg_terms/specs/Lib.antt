@@ -1,0 +1,8 @@
+pub mod FactTexts
+pub mod formers
+pub mod Name
+pub mod Order
+pub mod OrderLaws
+pub mod PathOrder
+pub mod Reading
+pub mod Texts

@@ -1,0 +1,27 @@
+//! The terms of LFG: names, edges, nodes, facts, literals, grammars, with their orders and texts.
+#![tactic(auto)]
+
+mod copies;
+mod depth;
+mod fact_texts;
+mod grammar;
+mod list;
+mod literal;
+mod name;
+mod node;
+mod order;
+mod path;
+mod shared;
+mod texts;
+mod tree;
+
+pub use fact_texts::fact_text;
+pub use grammar::{Arrow, Des, Form, Grammar, Graph, Item, Lex, Paths, Rule, Schema, Val};
+pub use list::List;
+pub use literal::{Check, Literal, Site, Target, Walk};
+pub use name::Name;
+pub use node::{Arg, Binding, Edge, Fact, Node};
+pub use path::Path;
+pub use shared::Shared;
+pub use texts::{edge_text, name_text};
+pub use tree::{Derivation, Part, TokenForms};
