@@ -2,6 +2,8 @@
 //! plain types that they name.
 #![tactic(auto)]
 
+mod constant;
 mod status;
 
+pub use constant::Constant;
 pub use status::{GrammarFault, Status};

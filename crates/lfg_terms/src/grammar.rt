@@ -3,7 +3,7 @@ use crate::name::Name;
 use crate::path::Path;
 
 /// A semantic form: its name, the functions inside its angle brackets and those behind them.
-#[derive(Debug, Drop, PartialEq, Eq)]
+#[derive(Clone, Debug, Drop, PartialEq, Eq)]
 pub struct Form {
     pub name: Name,
     pub inner: List<Name>,

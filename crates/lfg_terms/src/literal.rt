@@ -5,7 +5,7 @@ use crate::node::{Edge, Node};
 use crate::path::Path;
 
 /// Where an annotation was instantiated.
-#[derive(Debug, Drop)]
+#[derive(Clone, Debug, Drop, PartialEq, Eq)]
 pub enum Site {
     /// At the item `occ` of the rule of `edge`, counted from 1, over the tokens from `at` to `to`.
     Item {
