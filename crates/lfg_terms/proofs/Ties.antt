@@ -1,12 +1,15 @@
--- Two nodes that compare as equal are one.
-use Rattle.std.proofs.Common.{◌≡◌, ℕ, zero, suc, ◌<◌, ◌≤◌, List, [], ◌∷◌, map, length, refl, ap, sym, subst, ◌∙◌, arith}
+-- What compares as equal is equal.
+use Rattle.std.proofs.Common.{◌≡◌, ◌↔◌, IsTrue, true, ℕ, zero, suc, ◌<◌, ◌≤◌, List, [], ◌∷◌, map, length, refl, ap, sym, subst, ◌∙◌, arith}
 use Rattle.std.specs.declared.cmp.Ordering.{Ordering}
 use Rattle.std.specs.declared.cmp.Ordering.TheVariants.{Less, Equal, Greater}
-use Rattle.std.specs.Ordering.{nat_cmp, ordering_then}
+use Rattle.std.specs.Ordering.{nat_cmp, ordering_then, is_eq, eq_by_cmp}
+use Rattle.std.specs.Cmp.{IsTotalOrder}
+use Rattle.std.proofs.lemmas.Cmp.{eq_by_cmp_equiv, nat_list_cmp_total}
 use Rattle.std.specs.Cmp.Lexicographic.{slice_cmp}
 use Rattle.lfg_terms.specs.Order.{greatest, name_cmp, edge_cmp, arg_depth, node_depth, node_layer_cmp, arg_layer_cmp, node_order, arg_order, node_cmp_to, node_cmp, arg_cmp, fact_cmp}
+use Rattle.lfg_terms.specs.PathOrder.{path_cmp, path_cmp_total}
 use Rattle.lfg_terms.specs.declared.node.Fact.{Fact}
-use Rattle.lfg_terms.specs.OrderLaws.{node_depth_of, arg_depth_of, node_depth_out, arg_depth_out, node_cmp_deeper}
+use Rattle.lfg_terms.specs.OrderLaws.{node_depth_of, arg_depth_of, node_depth_out, arg_depth_out, node_cmp_deeper, edge_cmp_total, node_cmp_total, arg_cmp_total, fact_cmp_total}
 use Rattle.lfg_terms.specs.declared.node.Edge.{Edge}
 use Rattle.lfg_terms.specs.declared.node.Node.{Node, out-Node}
 use Rattle.lfg_terms.specs.declared.node.Arg.{Arg, out-Arg}
@@ -46,6 +49,9 @@ slice_ties R ties (x ∷ xs) (y ∷ ys) h =
 
 pub name_ties : (v w : List ℕ) → name_cmp v w ≡ Equal → v ≡ w
 name_ties = slice_ties nat_cmp nat_ties
+
+pub path_ties : (p q : List (List ℕ)) → path_cmp p q ≡ Equal → p ≡ q
+path_ties p q h = slice_ties name_cmp name_ties p q (both_equal (nat_cmp (length p) (length q)) (slice_cmp name_cmp p q) h).1
 
 pub edge_ties : (e f : Edge) → edge_cmp e f ≡ Equal → e ≡ f
 edge_ties e f h =
@@ -114,3 +120,50 @@ fact_ties f g h =
     let a : f.rel ≡ g.rel = name_ties f.rel g.rel o.0 in
     let b : f.args ≡ g.args = slice_ties arg_cmp arg_ties f.args g.args p.1 in
     λ i. record { rel = a i; args = b i }
+
+-- ---- an order answers `Equal`, and its `==` true, exactly at equal values
+
+is_equal : (o : Ordering) → is_eq o ≡ true → o ≡ Equal
+is_equal Less h = cc
+is_equal Equal h = refl
+is_equal Greater h = cc
+
+module _ {X : Type 0} (R : X → X → Ordering) (total : IsTotalOrder R) (ties : (x y : X) → R x y ≡ Equal → x ≡ y) where
+  eq_same : (x y : X) → IsTrue (eq_by_cmp R x y) ↔ (x ≡ y)
+  eq_same x y = (λ h. ties x y (is_equal (R x y) h), λ s. subst (λ z. eq_by_cmp R x z ≡ true) s ((eq_by_cmp_equiv total).refl x))
+
+  cmp_same : (x y : X) → (R x y ≡ Equal) ↔ (x ≡ y)
+  cmp_same x y = (ties x y, λ s. is_equal (R x y) ((eq_same x y).1 s))
+
+pub name_cmp_same : (v w : List ℕ) → (name_cmp v w ≡ Equal) ↔ (v ≡ w)
+name_cmp_same = cmp_same name_cmp nat_list_cmp_total name_ties
+
+pub path_cmp_same : (a b : List (List ℕ)) → (path_cmp a b ≡ Equal) ↔ (a ≡ b)
+path_cmp_same = cmp_same path_cmp path_cmp_total path_ties
+
+pub path_eq_same : (a b : List (List ℕ)) → IsTrue (eq_by_cmp path_cmp a b) ↔ (a ≡ b)
+path_eq_same = eq_same path_cmp path_cmp_total path_ties
+
+pub edge_cmp_same : (a b : Edge) → (edge_cmp a b ≡ Equal) ↔ (a ≡ b)
+edge_cmp_same = cmp_same edge_cmp edge_cmp_total edge_ties
+
+pub edge_eq_same : (a b : Edge) → IsTrue (eq_by_cmp edge_cmp a b) ↔ (a ≡ b)
+edge_eq_same = eq_same edge_cmp edge_cmp_total edge_ties
+
+pub node_cmp_same : (a b : Node) → (node_cmp a b ≡ Equal) ↔ (a ≡ b)
+node_cmp_same = cmp_same node_cmp node_cmp_total node_ties
+
+pub node_eq_same : (a b : Node) → IsTrue (eq_by_cmp node_cmp a b) ↔ (a ≡ b)
+node_eq_same = eq_same node_cmp node_cmp_total node_ties
+
+pub arg_cmp_same : (a b : Arg) → (arg_cmp a b ≡ Equal) ↔ (a ≡ b)
+arg_cmp_same = cmp_same arg_cmp arg_cmp_total arg_ties
+
+pub arg_eq_same : (a b : Arg) → IsTrue (eq_by_cmp arg_cmp a b) ↔ (a ≡ b)
+arg_eq_same = eq_same arg_cmp arg_cmp_total arg_ties
+
+pub fact_cmp_same : (a b : Fact) → (fact_cmp a b ≡ Equal) ↔ (a ≡ b)
+fact_cmp_same = cmp_same fact_cmp fact_cmp_total fact_ties
+
+pub fact_eq_same : (a b : Fact) → IsTrue (eq_by_cmp fact_cmp a b) ↔ (a ≡ b)
+fact_eq_same = eq_same fact_cmp fact_cmp_total fact_ties

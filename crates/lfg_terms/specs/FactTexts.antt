@@ -1,5 +1,6 @@
 -- The texts of nodes, arguments and facts.
-use Rattle.std.specs.Prelude.{ℕ, ◌+◌, List, [], ◌∷◌, ◌++◌, Option, Some, None, decimal, position, IsSome}
+use Rattle.std.specs.Prelude.{ℕ, ◌+◌, List, [], ◌∷◌, ◌++◌, Option, Some, None, decimal, map, position, IsSome}
+use Rattle.std.specs.List.{join_with_byte}
 use Rattle.std.specs.Ordering.{eq_by_cmp}
 use Rattle.lfg_terms.specs.Order.{node_cmp}
 use Rattle.lfg_terms.specs.declared.node.Node.{Node, out-Node}
@@ -37,16 +38,13 @@ arg_layer_text table (layer.Node node) = node_text table node
 abbrev pub arg_text : List Node → Arg → List ℕ
 arg_text table x = arg_layer_text table (out-Arg x)
 
-abbrev pub rest_text : List Node → List Arg → List ℕ
-rest_text table [] = 41 ∷ []
-rest_text table (x ∷ xs) = 44 ∷ arg_text table x ++ rest_text table xs
-
+-- the arguments' texts with commas between
 abbrev pub args_text : List Node → List Arg → List ℕ
-args_text table [] = 41 ∷ []
-args_text table (x ∷ xs) = arg_text table x ++ rest_text table xs
+args_text table args = join_with_byte 44 (map (arg_text table) args)
 
+-- the relation's text, and the arguments between brackets
 abbrev pub fact_text : List Node → Fact → List ℕ
-fact_text table fact = name_text fact.rel ++ 40 ∷ args_text table fact.args
+fact_text table fact = name_text fact.rel ++ 40 ∷ args_text table fact.args ++ 41 ∷ []
 
 -- a new node stands in the table
 abbrev pub IsListedLayer : Option ℕ → Node-F Arg Node → Type 0

@@ -1,5 +1,5 @@
 -- The texts of names and edges.
-use Rattle.std.specs.Prelude.{ℕ, Bool, false, not, ◌&&◌, ◌||◌, ◌==◌, nat_lt, if◌then◌else◌, List, [], ◌∷◌, ◌++◌, Option, Some, None, decimal}
+use Rattle.std.specs.Prelude.{◌≡◌, length, take, ℕ, Bool, false, not, ◌&&◌, ◌||◌, ◌==◌, nat_lt, if◌then◌else◌, List, [], ◌∷◌, ◌++◌, Option, Some, None, decimal}
 use Rattle.lfg_terms.specs.declared.node.Edge.{Edge}
 
 abbrev pub is_within : ℕ → ℕ → ℕ → Bool
@@ -35,3 +35,7 @@ name_text = text_after None
 
 abbrev pub edge_text : Edge → List ℕ
 edge_text e = name_text e.cat ++ 58 ∷ decimal e.from ++ 58 ∷ decimal e.to
+
+-- what stood in a text still stands at its front
+abbrev pub Keeps : List ℕ → List ℕ → Type 0
+Keeps old new = take (length old) new ≡ old

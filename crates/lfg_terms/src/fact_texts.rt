@@ -1,8 +1,9 @@
-ghost use Rattle.std.specs.Prelude.{◌≡◌, ◌++◌, ◌∷◌, [], ◌<◌, ◌^◌, IfOk, IfSome, OnOk, length};
+ghost use Rattle.std.specs.Prelude.{◌≡◌, ◌++◌, ◌∷◌, [], ◌<◌, ◌^◌, IfOk, IfSome, OnOk, OnErr, length};
 ghost use Rattle.std.specs.List.{All};
-ghost use Rattle.lfg_terms.specs.Texts.{name_text, edge_text};
-ghost use Rattle.lfg_terms.specs.FactTexts.{path_text, place_in, node_text, arg_text, rest_text, fact_text, IsListed, IsListedArg};
+ghost use Rattle.lfg_terms.specs.Texts.{name_text, edge_text, Keeps};
+ghost use Rattle.lfg_terms.specs.FactTexts.{path_text, place_in, node_text, arg_text, args_text, fact_text, IsListed, IsListedArg};
 
+use crate::name::Name;
 use crate::node::{Arg, Fact, Node};
 use crate::path::Path;
 use crate::texts::{push_edge, push_name, push_number};
@@ -10,13 +11,22 @@ use std::alloc::{AllocError, Global};
 
 /// Appends each attribute behind a slash.
 fn push_path(text: &mut Vec<u8>, path: &Path) -> Result<(), AllocError>
-    ensures { OnOk result (text.new.items ≡ text.old.items ++ path_text path.now) }
+    ensures ok { OnOk result (text.new.items ≡ text.old.items ++ path_text path.now) }
+    ensures err { OnErr result (Keeps text.old.items text.new.items) }
 {
     for name in path.list() {
-        text.push(b'/')?;
-        push_name(text, name)?;
+        push_attribute(text, name)?;
     }
     Ok(())
+}
+
+/// Appends the attribute behind a slash.
+fn push_attribute(text: &mut Vec<u8>, name: &Name) -> Result<(), AllocError>
+    ensures ok { OnOk result (text.new.items ≡ text.old.items ++ 47 ∷ name_text name.now) }
+    ensures err { OnErr result (Keeps text.old.items text.new.items) }
+{
+    text.push(b'/')?;
+    push_name(text, name)
 }
 
 /// Where the node first stands in the table.
@@ -35,7 +45,8 @@ fn push_node(
     table: &[Node],
 ) -> Result<(), AllocError>
     requires { IsListed table.now node.now }
-    ensures { OnOk result (text.new.items ≡ text.old.items ++ node_text table.now node.now) }
+    ensures ok { OnOk result (text.new.items ≡ text.old.items ++ node_text table.now node.now) }
+    ensures err { OnErr result (Keeps text.old.items text.new.items) }
 {
     match node {
         Node::At { edge, path } => {
@@ -52,15 +63,93 @@ fn push_node(
     }
 }
 
-/// Appends the argument's text.
-fn push_arg(alloc: Global, text: &mut Vec<u8>, arg: &Arg, table: &[Node]) -> Result<(), AllocError>
+/// Appends the argument's text: an atom as its name text, a node of a c-structure with its path,
+/// and a new node as a hash and the number of its first place in the table, counted from 1.
+///
+/// A new node has to stand in the table.
+///
+/// # Errors
+///
+/// Only for want of memory. What stood in `text` then still stands at its front.
+pub fn push_arg(
+    alloc: Global,
+    text: &mut Vec<u8>,
+    arg: &Arg,
+    table: &[Node],
+) -> Result<(), AllocError>
     requires { IsListedArg table.now arg.now }
-    ensures { OnOk result (text.new.items ≡ text.old.items ++ arg_text table.now arg.now) }
+    ensures ok { OnOk result (text.new.items ≡ text.old.items ++ arg_text table.now arg.now) }
+    ensures err { OnErr result (Keeps text.old.items text.new.items) }
 {
     match arg {
         Arg::Atom(name) => push_name(text, name),
         Arg::Node(node) => push_node(alloc, text, node, table),
     }
+}
+
+/// Appends the argument's text behind a comma.
+fn push_other_arg(
+    alloc: Global,
+    text: &mut Vec<u8>,
+    arg: &Arg,
+    table: &[Node],
+) -> Result<(), AllocError>
+    requires { IsListedArg table.now arg.now }
+    ensures ok { OnOk result (text.new.items ≡ text.old.items ++ 44 ∷ arg_text table.now arg.now) }
+    ensures err { OnErr result (Keeps text.old.items text.new.items) }
+{
+    text.push(b',')?;
+    push_arg(alloc, text, arg, table)
+}
+
+/// Appends the arguments' texts with commas between.
+///
+/// Each new node that is one of the arguments has to stand in the table.
+///
+/// # Errors
+///
+/// Only for want of memory. What stood in `text` then still stands at its front.
+pub fn push_args(
+    alloc: Global,
+    text: &mut Vec<u8>,
+    args: &[Arg],
+    table: &[Node],
+) -> Result<(), AllocError>
+    requires { All (IsListedArg table.now) args.now }
+    ensures ok { OnOk result (text.new.items ≡ text.old.items ++ args_text table.now args.now) }
+    ensures err { OnErr result (Keeps text.old.items text.new.items) }
+{
+    if let Some((first, others)) = args.split_first() {
+        push_arg(alloc, text, first, table)?;
+        for arg in others {
+            push_other_arg(alloc, text, arg, table)?;
+        }
+    }
+    Ok(())
+}
+
+/// Appends the fact's text, as `fact_text` gives it.
+///
+/// Each new node that is an argument of the fact has to stand in the table.
+///
+/// # Errors
+///
+/// Only for want of memory. What stood in `text` then still stands at its front.
+pub fn push_fact(
+    alloc: Global,
+    text: &mut Vec<u8>,
+    fact: &Fact,
+    table: &[Node],
+) -> Result<(), AllocError>
+    requires { All (IsListedArg table.now) fact.now.args }
+    ensures ok { OnOk result (text.new.items ≡ text.old.items ++ fact_text table.now fact.now) }
+    ensures err { OnErr result (Keeps text.old.items text.new.items) }
+{
+    push_name(text, &fact.rel)?;
+    text.push(b'(')?;
+    push_args(alloc, text, fact.args.list(), table)?;
+    text.push(b')')?;
+    Ok(())
 }
 
 /// The fact's text: the relation and the arguments between brackets, with commas between. A new
@@ -76,15 +165,6 @@ pub fn fact_text(alloc: Global, fact: &Fact, table: &[Node]) -> Result<Vec<u8>, 
     ensures { IfOk result (λ text. text.items ≡ fact_text table.now fact.now) }
 {
     let mut text = Vec::new(alloc);
-    push_name(&mut text, &fact.rel)?;
-    text.push(b'(')?;
-    if let Some((first, others)) = fact.args.list().split_first() {
-        push_arg(alloc, &mut text, first, table)?;
-        for arg in others {
-            text.push(b',')?;
-            push_arg(alloc, &mut text, arg, table)?;
-        }
-    }
-    text.push(b')')?;
+    push_fact(alloc, &mut text, fact, table)?;
     Ok(text)
 }

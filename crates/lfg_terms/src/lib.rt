@@ -15,7 +15,7 @@ mod shared;
 mod texts;
 mod tree;
 
-pub use fact_texts::fact_text;
+pub use fact_texts::{fact_text, push_arg, push_args, push_fact};
 pub use grammar::{Arrow, Des, Form, Grammar, Graph, Item, Lex, Paths, Rule, Schema, Val};
 pub use list::List;
 pub use literal::{Check, Literal, Site, Target, Walk};
@@ -23,5 +23,5 @@ pub use name::Name;
 pub use node::{Arg, Binding, Edge, Fact, Node};
 pub use path::Path;
 pub use shared::Shared;
-pub use texts::{edge_text, name_text};
+pub use texts::{edge_text, name_text, push_edge, push_name, push_number};
 pub use tree::{Derivation, Part, TokenForms};

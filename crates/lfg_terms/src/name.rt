@@ -1,4 +1,4 @@
-ghost use Rattle.std.specs.Prelude.{◌≡◌, ◌==◌, List, [], ℕ, IfOk};
+ghost use Rattle.std.specs.Prelude.{◌≡◌, ◌↔◌, ◌==◌, List, [], ℕ, IsTrue, IfOk};
 ghost use Rattle.std.proofs.Common.{rules};
 ghost use Rattle.std.specs.Cmp.Rules.{comparing};
 ghost use Rattle.std.specs.Cmp.{partial_order_from_own_ties};
@@ -86,8 +86,6 @@ impl Clone for Name {
 }
 
 impl PartialEq for Name {
-    ghost use Rattle.std.specs.Prelude.{◌↔◌, IsTrue};
-
     ghost eq = { pointwise ◌==◌ };
 
     ghost laws = { Prim.search (comparing, rules) };
@@ -123,7 +121,11 @@ impl Ord for Name {
 
     ghost matches_eq = { Prim.search (comparing, rules) };
 
-    fn cmp(&self, other: &Name) -> Ordering {
+    #[tactic(auto, using(crate::proofs::Ties::name_cmp_same))]
+    fn cmp(&self, other: &Name) -> Ordering
+        ensures same { (result ≡ Ordering.Equal) ↔ (self.now ≡ other.now) }
+        ensures cmp { result ≡ slice_cmp nat_cmp self.now other.now }
+    {
         self.text().cmp(other.text())
     }
 }

@@ -4,7 +4,7 @@ ghost use Rattle.std.specs.Cmp.Lexicographic.{slice_cmp};
 ghost use Rattle.std.specs.Ordering.{as_partial_cmp, eq_by_cmp};
 ghost use Rattle.std.proofs.lemmas.Cmp.{eq_by_cmp_equiv};
 ghost use Rattle.lfg_terms.specs.Order.{edge_cmp, node_cmp, arg_cmp, fact_cmp};
-ghost use Rattle.lfg_terms.specs.OrderLaws.{edge_cmp_total, node_cmp_total, fact_cmp_total};
+ghost use Rattle.lfg_terms.specs.OrderLaws.{edge_cmp_total, node_cmp_total, arg_cmp_total, fact_cmp_total};
 
 use crate::depth::is_deeper;
 use crate::node::{Arg, Edge, Fact, Node};
@@ -15,7 +15,11 @@ impl PartialEq for Edge {
 
     ghost laws = { partial_equiv_from_equiv (eq_by_cmp_equiv edge_cmp_total) };
 
-    fn eq(&self, other: &Edge) -> bool {
+    #[tactic(auto, using(crate::proofs::Ties::edge_eq_same))]
+    fn eq(&self, other: &Edge) -> bool
+        ensures same { IsTrue result ↔ (self.now ≡ other.now) }
+        ensures eq { result ≡ eq_by_cmp edge_cmp self.now other.now }
+    {
         self.cmp(other).is_eq()
     }
 }
@@ -43,7 +47,11 @@ impl Ord for Edge {
 
     ghost matches_eq = { λ x y. refl };
 
-    fn cmp(&self, other: &Edge) -> Ordering {
+    #[tactic(auto, using(crate::proofs::Ties::edge_cmp_same))]
+    fn cmp(&self, other: &Edge) -> Ordering
+        ensures same { (result ≡ Ordering.Equal) ↔ (self.now ≡ other.now) }
+        ensures cmp { result ≡ edge_cmp self.now other.now }
+    {
         self.from
             .cmp(&other.from)
             .then(other.to.cmp(&self.to))
@@ -56,7 +64,11 @@ impl PartialEq for Node {
 
     ghost laws = { partial_equiv_from_equiv (eq_by_cmp_equiv node_cmp_total) };
 
-    fn eq(&self, other: &Node) -> bool {
+    #[tactic(auto, using(crate::proofs::Ties::node_eq_same))]
+    fn eq(&self, other: &Node) -> bool
+        ensures same { IsTrue result ↔ (self.now ≡ other.now) }
+        ensures eq { result ≡ eq_by_cmp node_cmp self.now other.now }
+    {
         compare_nodes(self, other).is_eq()
     }
 }
@@ -84,7 +96,11 @@ impl Ord for Node {
 
     ghost matches_eq = { λ x y. refl };
 
-    fn cmp(&self, other: &Node) -> Ordering {
+    #[tactic(auto, using(crate::proofs::Ties::node_cmp_same))]
+    fn cmp(&self, other: &Node) -> Ordering
+        ensures same { (result ≡ Ordering.Equal) ↔ (self.now ≡ other.now) }
+        ensures cmp { result ≡ node_cmp self.now other.now }
+    {
         compare_nodes(self, other)
     }
 }
@@ -161,16 +177,63 @@ fn compare_lists(xs: &[Arg], ys: &[Arg]) -> Ordering
     xs.len().cmp(&ys.len())
 }
 
+impl PartialEq for Arg {
+    ghost eq = { eq_by_cmp arg_cmp };
+
+    ghost laws = { partial_equiv_from_equiv (eq_by_cmp_equiv arg_cmp_total) };
+
+    #[tactic(auto, using(crate::proofs::Ties::arg_eq_same))]
+    fn eq(&self, other: &Arg) -> bool
+        ensures same { IsTrue result ↔ (self.now ≡ other.now) }
+        ensures eq { result ≡ eq_by_cmp arg_cmp self.now other.now }
+    {
+        compare_args(self, other).is_eq()
+    }
+}
+
+impl Eq for Arg {
+    ghost laws = { eq_by_cmp_equiv arg_cmp_total };
+}
+
+impl PartialOrd for Arg {
+    ghost partial_cmp = { as_partial_cmp arg_cmp };
+
+    ghost laws = { partial_order_from_total arg_cmp_total };
+
+    fn partial_cmp(&self, other: &Arg) -> Option<Ordering> {
+        Some(compare_args(self, other))
+    }
+}
+
+impl Ord for Arg {
+    ghost cmp = { arg_cmp };
+
+    ghost total = { arg_cmp_total };
+
+    ghost matches_partial_cmp = { λ x y. refl };
+
+    ghost matches_eq = { λ x y. refl };
+
+    #[tactic(auto, using(crate::proofs::Ties::arg_cmp_same))]
+    fn cmp(&self, other: &Arg) -> Ordering
+        ensures same { (result ≡ Ordering.Equal) ↔ (self.now ≡ other.now) }
+        ensures cmp { result ≡ arg_cmp self.now other.now }
+    {
+        compare_args(self, other)
+    }
+}
+
 impl PartialEq for Fact {
     ghost eq = { eq_by_cmp fact_cmp };
 
     ghost laws = { partial_equiv_from_equiv (eq_by_cmp_equiv fact_cmp_total) };
 
+    #[tactic(auto, using(crate::proofs::Ties::fact_eq_same))]
     fn eq(&self, other: &Fact) -> bool
         ensures same { IsTrue result ↔ (self.now ≡ other.now) }
         ensures eq { result ≡ eq_by_cmp fact_cmp self.now other.now }
     {
-        self.cmp(other).is_eq()
+        compare_facts(self, other).is_eq()
     }
 }
 
@@ -184,7 +247,7 @@ impl PartialOrd for Fact {
     ghost laws = { partial_order_from_total fact_cmp_total };
 
     fn partial_cmp(&self, other: &Fact) -> Option<Ordering> {
-        Some(self.cmp(other))
+        Some(compare_facts(self, other))
     }
 }
 
@@ -197,14 +260,24 @@ impl Ord for Fact {
 
     ghost matches_eq = { λ x y. refl };
 
-    fn cmp(&self, other: &Fact) -> Ordering {
-        let mine = self.args.list();
-        let theirs = other.args.list();
-        let first = self.rel.cmp(&other.rel).then(mine.len().cmp(&theirs.len()));
-        if first.is_eq() {
-            compare_lists(mine, theirs)
-        } else {
-            first
-        }
+    #[tactic(auto, using(crate::proofs::Ties::fact_cmp_same))]
+    fn cmp(&self, other: &Fact) -> Ordering
+        ensures same { (result ≡ Ordering.Equal) ↔ (self.now ≡ other.now) }
+        ensures cmp { result ≡ fact_cmp self.now other.now }
+    {
+        compare_facts(self, other)
+    }
+}
+
+fn compare_facts(a: &Fact, b: &Fact) -> Ordering
+    ensures { result ≡ fact_cmp a.now b.now }
+{
+    let mine = a.args.list();
+    let theirs = b.args.list();
+    let first = a.rel.cmp(&b.rel).then(mine.len().cmp(&theirs.len()));
+    if first.is_eq() {
+        compare_lists(mine, theirs)
+    } else {
+        first
     }
 }

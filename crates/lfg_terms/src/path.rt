@@ -1,4 +1,4 @@
-ghost use Rattle.std.specs.Prelude.{◌≡◌, List, ℕ, IfOk, refl};
+ghost use Rattle.std.specs.Prelude.{◌≡◌, ◌↔◌, List, ℕ, IsTrue, IfOk, refl};
 ghost use Rattle.std.specs.Cmp.{partial_order_from_total, partial_equiv_from_equiv};
 ghost use Rattle.std.specs.Ordering.{as_partial_cmp, eq_by_cmp};
 ghost use Rattle.std.proofs.lemmas.Cmp.{eq_by_cmp_equiv};
@@ -55,7 +55,11 @@ impl PartialEq for Path {
 
     ghost laws = { partial_equiv_from_equiv (eq_by_cmp_equiv path_cmp_total) };
 
-    fn eq(&self, other: &Path) -> bool {
+    #[tactic(auto, using(crate::proofs::Ties::path_eq_same))]
+    fn eq(&self, other: &Path) -> bool
+        ensures same { IsTrue result ↔ (self.now ≡ other.now) }
+        ensures eq { result ≡ eq_by_cmp path_cmp self.now other.now }
+    {
         self.cmp(other).is_eq()
     }
 }
@@ -83,7 +87,11 @@ impl Ord for Path {
 
     ghost matches_eq = { λ x y. refl };
 
-    fn cmp(&self, other: &Path) -> Ordering {
+    #[tactic(auto, using(crate::proofs::Ties::path_cmp_same))]
+    fn cmp(&self, other: &Path) -> Ordering
+        ensures same { (result ≡ Ordering.Equal) ↔ (self.now ≡ other.now) }
+        ensures cmp { result ≡ path_cmp self.now other.now }
+    {
         let mine = self.list();
         let theirs = other.list();
         mine.len().cmp(&theirs.len()).then(mine.cmp(theirs))

@@ -1,5 +1,5 @@
-ghost use Rattle.std.specs.Prelude.{◌≡◌, ◌++◌, ◌∷◌, [], List, ℕ, ◌<◌, ◌^◌, IfOk, OnOk, length, take, decimal};
-ghost use Rattle.lfg_terms.specs.Texts.{name_text, edge_text, byte_text, is_bare};
+ghost use Rattle.std.specs.Prelude.{◌≡◌, ◌++◌, ◌∷◌, [], List, ℕ, ◌<◌, ◌^◌, IfOk, OnOk, OnErr, length, take, decimal};
+ghost use Rattle.lfg_terms.specs.Texts.{name_text, edge_text, byte_text, is_bare, Keeps};
 ghost use Rattle.lfg_terms.specs.declared.node.Edge.{Edge};
 
 use crate::name::Name;
@@ -35,39 +35,75 @@ pub fn name_text(alloc: Global, name: &Name) -> Result<Vec<u8>, AllocError>
     Ok(text)
 }
 
-/// Appends the name's text.
-pub(crate) fn push_name(text: &mut Vec<u8>, name: &Name) -> Result<(), AllocError>
-    ensures { OnOk result (text.new.items ≡ text.old.items ++ name_text name.now) }
+/// Appends the byte of a name that stands between these two.
+fn push_byte(
+    text: &mut Vec<u8>,
+    before: Option<u8>,
+    byte: u8,
+    after: Option<u8>,
+) -> Result<(), AllocError>
+    ensures ok { OnOk result (text.new.items ≡ text.old.items ++ byte_text before byte after) }
+    ensures err { OnErr result (Keeps text.old.items text.new.items) }
+{
+    if !is_bare(before, byte, after) {
+        text.push(b'`')?;
+    }
+    text.push(byte)?;
+    Ok(())
+}
+
+/// Appends the name's text, as `name_text` gives it.
+///
+/// # Errors
+///
+/// Only for want of memory. What stood in `text` then still stands at its front.
+pub fn push_name(text: &mut Vec<u8>, name: &Name) -> Result<(), AllocError>
+    ensures ok { OnOk result (text.new.items ≡ text.old.items ++ name_text name.now) }
+    ensures err { OnErr result (Keeps text.old.items text.new.items) }
 {
     let bytes = name.text().as_bytes();
     let mut before = None;
     for i in 0..bytes.len() {
         let byte = bytes[i];
-        if !is_bare(before, byte, bytes.get(i + 1).copied()) {
-            text.push(b'`')?;
-        }
-        text.push(byte)?;
+        push_byte(text, before, byte, bytes.get(i + 1).copied())?;
         before = Some(byte);
     }
     Ok(())
 }
 
-/// Appends the number in decimal digits.
-pub(crate) fn push_number(alloc: Global, text: &mut Vec<u8>, number: u64) -> Result<(), AllocError>
-    ensures { OnOk result (text.new.items ≡ text.old.items ++ decimal number) }
+/// Appends the number in decimal digits, without leading zeros.
+///
+/// # Errors
+///
+/// Only for want of memory. What stood in `text` then still stands at its front.
+pub fn push_number(alloc: Global, text: &mut Vec<u8>, number: u64) -> Result<(), AllocError>
+    ensures ok { OnOk result (text.new.items ≡ text.old.items ++ decimal number) }
+    ensures err { OnErr result (Keeps text.old.items text.new.items) }
 {
     text.extend_from_slice(number.to_string(alloc)?.as_bytes())
 }
 
-/// Appends the category, the start and the end, with colons between.
-pub(crate) fn push_edge(alloc: Global, text: &mut Vec<u8>, edge: &Edge) -> Result<(), AllocError>
-    ensures { OnOk result (text.new.items ≡ text.old.items ++ edge_text edge.now) }
+/// Appends a place between tokens behind a colon.
+fn push_place(alloc: Global, text: &mut Vec<u8>, place: u32) -> Result<(), AllocError>
+    ensures ok { OnOk result (text.new.items ≡ text.old.items ++ 58 ∷ decimal place) }
+    ensures err { OnErr result (Keeps text.old.items text.new.items) }
+{
+    text.push(b':')?;
+    push_number(alloc, text, place as u64)
+}
+
+/// Appends the edge's text, as `edge_text` gives it.
+///
+/// # Errors
+///
+/// Only for want of memory. What stood in `text` then still stands at its front.
+pub fn push_edge(alloc: Global, text: &mut Vec<u8>, edge: &Edge) -> Result<(), AllocError>
+    ensures ok { OnOk result (text.new.items ≡ text.old.items ++ edge_text edge.now) }
+    ensures err { OnErr result (Keeps text.old.items text.new.items) }
 {
     push_name(text, &edge.cat)?;
-    text.push(b':')?;
-    push_number(alloc, text, edge.from as u64)?;
-    text.push(b':')?;
-    push_number(alloc, text, edge.to as u64)
+    push_place(alloc, text, edge.from)?;
+    push_place(alloc, text, edge.to)
 }
 
 /// The edge as facts show it: the category's text, the start and the end, with colons between.
