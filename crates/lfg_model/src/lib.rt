@@ -2,6 +2,10 @@
 //! plain types that they name.
 #![tactic(auto)]
 
+mod constant;
+mod pair;
 mod status;
 
+pub use constant::Constant;
+pub use pair::Pair;
 pub use status::{GrammarFault, Status};
