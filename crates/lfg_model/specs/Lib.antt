@@ -1,1 +1,11 @@
+pub mod Derive
+pub mod Equal
+pub mod Lists
+pub mod Literals
 pub mod Output
+pub mod PairTexts
+pub mod Readings
+pub mod Resolve
+pub mod Rounds
+pub mod Solve
+pub mod Terms

@@ -3,7 +3,10 @@
 #![tactic(auto)]
 
 mod constant;
+pub mod laws;
+mod pair;
 mod status;
 
 pub use constant::Constant;
+pub use pair::Pair;
 pub use status::{GrammarFault, Status};
