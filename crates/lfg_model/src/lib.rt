@@ -3,5 +3,7 @@
 #![tactic(auto)]
 
 mod status;
+mod token;
 
 pub use status::{GrammarFault, Status};
+pub use token::{Token, TokenKind, one_reading};
