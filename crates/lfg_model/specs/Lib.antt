@@ -9,3 +9,5 @@ pub mod Resolve
 pub mod Rounds
 pub mod Solve
 pub mod Terms
+pub mod Pieces
+pub mod Tokens

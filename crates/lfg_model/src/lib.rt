@@ -6,7 +6,9 @@ mod constant;
 pub mod laws;
 mod pair;
 mod status;
+mod token;
 
 pub use constant::Constant;
 pub use pair::Pair;
 pub use status::{GrammarFault, Status};
+pub use token::{Token, TokenKind, one_reading};

@@ -1,0 +1,3 @@
+pub mod NameFronts
+pub mod OneReading
+pub mod PieceEnds

@@ -1,0 +1,35 @@
+ghost use Rattle.std.specs.Prelude.{◌≡◌, ◌≤◌, ◌++◌, Some, List, ℕ, length};
+ghost use Rattle.std.specs.Str.{encode_utf8_all};
+ghost use Rattle.lfg_model.specs.Pieces.{piece_at, token};
+ghost use Rattle.lfg_model.specs.Tokens.{Tokens, Stuck, IsName, IsSymbol};
+ghost use Rattle.lfg_model.specs.declared.token.Token.{Token};
+
+use lfg_terms::Name;
+
+/// What kind of token stands at a place.
+#[derive(Clone, Copy, Debug, PartialEq, Eq, Drop)]
+pub enum TokenKind {
+    /// One or more pieces of name characters, joined by single hyphens.
+    Name,
+    /// One of the signs of the notation.
+    Symbol,
+}
+
+/// A token of the notation and where it stands.
+#[derive(Debug, PartialEq, Eq, Drop)]
+pub struct Token {
+    pub kind: TokenKind,
+    /// The symbol, or the name without its backquotes.
+    pub text: Name,
+    /// The byte at which it begins, counted from 0.
+    pub at: u32,
+    /// The byte behind its last, counted from 0.
+    pub to: u32,
+}
+
+/// A text has one reading at most: one row of tokens, or one place at which nothing begins.
+pub fn one_reading()
+    ensures rows { (cs : List ℕ) (ts us : List Token) → Tokens 0 cs ts → Tokens 0 cs us → ts ≡ us }
+    ensures places { (cs : List ℕ) (stop other : ℕ) → Stuck 0 cs stop → Stuck 0 cs other → stop ≡ other }
+    ensures never_both { (cs : List ℕ) (ts : List Token) (stop : ℕ) → Tokens 0 cs ts → Stuck 0 cs stop → ⊥ }
+{}
