@@ -7,11 +7,15 @@
 
 mod counts;
 mod disk_shelf;
+mod mem_shelf;
+mod mem_sink;
 mod shelf;
 mod sink;
 mod std_sink;
 
 pub use disk_shelf::DiskShelf;
+pub use mem_shelf::MemShelf;
+pub use mem_sink::MemSink;
 pub use shelf::{Shelf, ShelfFault};
 pub use sink::{Sink, SinkFault, put_pieces};
 pub use std_sink::StdSink;
