@@ -1,0 +1,100 @@
+ghost use Rattle.std.specs.Prelude.{◌≡◌, [], None, OnOk, OnErr, string_bytes};
+ghost use Rattle.lfg_io.specs.Shelf.{IsLoaded};
+
+use crate::counts::raise;
+use crate::shelf::{Shelf, ShelfFault};
+use std::alloc::Global;
+use std::fs;
+use std::io::Read;
+use std::rt::Files;
+
+/// How many bytes a read asks for at most.
+const CHUNK: usize = 512;
+
+/// A shelf over the files of the system. It tells no content, and is sure of no name.
+#[derive(Drop)]
+pub struct DiskShelf<R: Files> {
+    rt: R,
+    faults: u64,
+    last_failed: String,
+}
+
+impl<R: Files> DiskShelf<R> {
+    /// A shelf over the files of the runtime that has counted no fault. Takes no memory.
+    pub fn new(alloc: Global, rt: R) -> DiskShelf<R>
+        ensures faults { ⟦<DiskShelf<R> as Shelf>⟧.faults result ≡ 0 }
+        ensures last_failed { ⟦<DiskShelf<R> as Shelf>⟧.last_failed result ≡ [] }
+    {
+        DiskShelf {
+            rt,
+            faults: 0,
+            last_failed: String::new(alloc),
+        }
+    }
+}
+
+/// Appends at most `limit` bytes of the file. What was appended before a fault is taken back.
+fn load_from<R: Files>(
+    rt: &R,
+    name: &str,
+    limit: usize,
+    into: &mut Vec<u8>,
+) -> Result<(), ShelfFault>
+    ensures loaded { OnOk result (IsLoaded None name.now limit into.old.items into.new.items) }
+    ensures refused { OnErr result (into.new.items ≡ into.old.items) }
+{
+    let start = into.len();
+    let Ok(mut file) = fs::open(rt, name) else {
+        return Err(ShelfFault::Failed);
+    };
+    let mut buffer = [0u8; CHUNK];
+    let mut left = limit;
+    while left > 0 {
+        let most = left.min(CHUNK);
+        match file.read(&mut buffer[..most]) {
+            Ok(0) => break,
+            Ok(count) => {
+                if into.extend_from_slice(&buffer[..count]).is_err() {
+                    into.truncate(start);
+                    return Err(ShelfFault::Memory);
+                }
+                left -= count;
+            }
+            Err(_) => {
+                into.truncate(start);
+                return Err(ShelfFault::Failed);
+            }
+        }
+    }
+    Ok(())
+}
+
+impl<R: Files> Shelf for DiskShelf<R> {
+    ghost files = { λ _. None };
+
+    ghost sure = { λ _. [] };
+
+    ghost faults = { λ shelf. shelf.faults };
+
+    ghost last_failed = { λ shelf. string_bytes shelf.last_failed };
+
+    fn load(
+        &mut self,
+        alloc: Global,
+        name: &str,
+        limit: usize,
+        into: &mut Vec<u8>,
+    ) -> Result<(), ShelfFault> {
+        let Ok(failed) = String::from_str(alloc, name) else {
+            return Err(ShelfFault::Memory);
+        };
+        match load_from(&self.rt, name, limit, into) {
+            Err(ShelfFault::Failed) => {
+                self.faults = raise(self.faults);
+                self.last_failed = failed;
+                Err(ShelfFault::Failed)
+            }
+            other => other,
+        }
+    }
+}
