@@ -3,7 +3,6 @@
 #![tactic(auto)]
 
 mod constant;
-pub mod laws;
 mod pair;
 mod status;
 mod token;

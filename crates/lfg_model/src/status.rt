@@ -2,7 +2,7 @@ use lfg_terms::Name;
 use thiserror::Error;
 
 /// Why a grammar file or a sentence file is refused.
-#[derive(Debug, Drop, Error)]
+#[derive(Debug, Drop, PartialEq, Eq, Error)]
 pub enum GrammarFault {
     /// The entry with this number, counted from 1 over the whole file, is none of the notation.
     /// The number 0 stands for a form of file that is not read yet.
@@ -11,7 +11,7 @@ pub enum GrammarFault {
 }
 
 /// How a run of the program ended.
-#[derive(Debug, Drop)]
+#[derive(Debug, Drop, PartialEq, Eq)]
 pub enum Status {
     /// Everything was written.
     Done,

@@ -1,12 +1,18 @@
+ghost use Rattle.std.specs.Prelude.{◌≡◌, [], IfOk, IfSome, OnOk};
+ghost use Rattle.lfg_solve.specs.Printable.{ArePrintable};
+ghost use Rattle.lfg_terms.specs.FactTexts.{IsListedArg};
+
 use crate::conditions::PRED;
 use crate::solution::Solution;
 use lfg_model::Constant;
-use lfg_terms::{Arg, Fact, List, Name};
+use lfg_terms::{Arg, Fact, List, Name, Node};
 use std::alloc::{AllocError, Global};
 
 impl Solution {
     /// What the class is called: its atom, the name of its form, or else its least node.
-    fn name_of(&self, class: usize) -> Result<Option<Arg>, AllocError> {
+    fn name_of(&self, class: usize) -> Result<Option<Arg>, AllocError>
+        ensures printable { IfOk result (λ found. IfSome found (IsListedArg [])) }
+    {
         for value in &self.values {
             if value.class == class {
                 return match &value.constant {
@@ -16,8 +22,11 @@ impl Solution {
             }
         }
         match self.nodes.get(class) {
-            Some(node) => Ok(Some(Arg::Node(node.clone()?))),
-            None => Ok(None),
+            Some(Node::At { edge, path }) => Ok(Some(Arg::Node(Node::At {
+                edge: edge.clone()?,
+                path: path.clone()?,
+            }))),
+            _ => Ok(None),
         }
     }
 
@@ -29,7 +38,9 @@ impl Solution {
     /// # Errors
     ///
     /// Only for want of memory.
-    pub fn facts(&self, alloc: Global) -> Result<Vec<Fact>, AllocError> {
+    pub fn facts(&self, alloc: Global) -> Result<Vec<Fact>, AllocError>
+        ensures printable { IfOk result (λ facts. ArePrintable facts.items) }
+    {
         let mut facts = Vec::new(alloc);
         for arc in &self.arcs {
             self.push_pair(alloc, &mut facts, arc.attribute.clone()?, arc.from, arc.to)?;
@@ -41,9 +52,7 @@ impl Solution {
             let relation = Name::new(alloc, "in_set")?;
             self.push_pair(alloc, &mut facts, relation, member.item, member.set)?;
         }
-        facts.sort()?;
-        facts.dedup();
-        Ok(facts)
+        fact_set(facts)
     }
 
     /// Appends the fact that the relation holds between the two classes.
@@ -54,7 +63,10 @@ impl Solution {
         relation: Name,
         first: usize,
         second: usize,
-    ) -> Result<(), AllocError> {
+    ) -> Result<(), AllocError>
+        requires printable { ArePrintable facts.old.items }
+        ensures printable { OnOk result (ArePrintable facts.new.items) }
+    {
         if let Some(first) = self.name_of(first)?
             && let Some(second) = self.name_of(second)?
         {
@@ -74,7 +86,10 @@ impl Solution {
         facts: &mut Vec<Fact>,
         class: usize,
         pred: usize,
-    ) -> Result<(), AllocError> {
+    ) -> Result<(), AllocError>
+        requires printable { ArePrintable facts.old.items }
+        ensures printable { OnOk result (ArePrintable facts.new.items) }
+    {
         for value in &self.values {
             if value.class == pred
                 && let Constant::Form { form, .. } = &value.constant
@@ -94,7 +109,10 @@ impl Solution {
         relation: &str,
         class: usize,
         functions: &[Name],
-    ) -> Result<(), AllocError> {
+    ) -> Result<(), AllocError>
+        requires printable { ArePrintable facts.old.items }
+        ensures printable { OnOk result (ArePrintable facts.new.items) }
+    {
         for i in 0..functions.len() {
             if let Some(named) = self.name_of(class)? {
                 let number = (i as u64 + 1).to_string(alloc)?;
@@ -108,4 +126,15 @@ impl Solution {
         }
         Ok(())
     }
+}
+
+/// The facts in order, each once.
+fn fact_set(facts: Vec<Fact>) -> Result<Vec<Fact>, AllocError>
+    requires printable { ArePrintable facts.items }
+    ensures printable { IfOk result (λ set. ArePrintable set.items) }
+{
+    let mut facts = facts;
+    facts.sort()?;
+    facts.dedup();
+    Ok(facts)
 }

@@ -1,0 +1,29 @@
+ghost use Rattle.std.specs.Prelude.{◌≡◌, None, Some, map, string_bytes, MatchOption};
+ghost use Rattle.lfg_model.specs.Output.{command_of};
+ghost use Rattle.xle_run.specs.Commands.{command_view};
+
+/// A command with its files, as words of the command line.
+#[derive(Clone, Copy)]
+pub(crate) enum Command<'a> {
+    Readings {
+        grammar: &'a str,
+        sentences: &'a str,
+    },
+}
+
+/// The command that the words say, if they fit one.
+pub(crate) fn command_of(words: &[String]) -> Option<Command<'_>>
+    ensures { MatchOption result (command_of (map string_bytes words.now) ≡ None) (λ command. command_of (map string_bytes words.now) ≡ Some (command_view command)) }
+{
+    let [name, grammar, sentences] = words else {
+        return None;
+    };
+    if name.as_str() == "readings" {
+        Some(Command::Readings {
+            grammar: grammar.as_str(),
+            sentences: sentences.as_str(),
+        })
+    } else {
+        None
+    }
+}
