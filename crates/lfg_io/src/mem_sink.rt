@@ -136,3 +136,40 @@ impl Sink for MemSink {
         Err(SinkFault::Failed)
     }
 }
+
+#[cfg(test)]
+mod tests {
+    use super::*;
+    use crate::sink::put_pieces;
+    use std::test::Fail;
+
+    #[test]
+    fn fails_at_the_listed_calls_and_at_the_end_of_the_room(rt: HostRuntime) -> Result<(), Fail> {
+        let fails = vec![in rt.alloc(); (2, 1), (2, 2), (3, 9)]?;
+        let mut sink = MemSink::new(rt.alloc(), fails, 7)?;
+        let failed = Err(SinkFault::Failed);
+        let calls = [
+            ("ab", Ok(()), "ab"),
+            ("", Ok(()), "ab"),
+            ("cd", failed, "abc"),
+            ("ef", failed, "abcef"),
+            ("g", Ok(()), "abcefg"),
+            ("hi", failed, "abcefgh"),
+        ];
+        for (piece, answer, written) in calls {
+            assert_eq!(rt; sink.put(piece.as_bytes()), answer, "putting {piece}");
+            assert_eq!(rt; sink.written(), written.as_bytes(), "after {piece}");
+        }
+        assert_eq!(rt; sink.faults(), 3);
+        Ok(())
+    }
+
+    #[test]
+    fn takes_pieces_within_the_room(rt: HostRuntime) -> Result<(), Fail> {
+        let mut sink = MemSink::new(rt.alloc(), Vec::new(rt.alloc()), 9)?;
+        let word = "no file";
+        assert_eq!(rt; put_pieces(&mut sink, &[b"xle: ", word.as_bytes(), b"\n"]), Err(SinkFault::Failed));
+        assert_eq!(rt; sink.written(), b"xle: no f");
+        Ok(())
+    }
+}
