@@ -35,11 +35,7 @@ impl<R: Files> DiskShelf<R> {
 
 /// Appends the first `limit` bytes that the reader gives, or all if they are fewer. A read that gives
 /// no byte where some were asked for is the end. What was appended before a fault is taken back.
-fn append_from<R: Read>(
-    reader: &mut R,
-    limit: usize,
-    into: &mut Vec<u8>,
-) -> Result<(), ShelfFault>
+fn append_from<R: Read>(reader: &mut R, limit: usize, into: &mut Vec<u8>) -> Result<(), ShelfFault>
     ensures within { OnOk result (IsLoaded None [] limit into.old.items into.new.items) }
     ensures known { OnOk result (IfSome (R.remaining reader.old) (λ bytes. into.new.items ≡ into.old.items ++ take limit bytes)) }
     ensures refused { OnErr result (into.new.items ≡ into.old.items) }
@@ -119,17 +115,23 @@ mod tests {
     use std::test::Fail;
 
     #[test]
-    fn loads_a_file_up_to_the_limit(rt: HostRuntime) -> Result<(), Fail> {
+    fn loads_the_file_up_to_the_limit(rt: HostRuntime) -> Result<(), Fail> {
         let path = "lfg_io_disk_shelf_test";
-        let mut content = Vec::new(rt.alloc());
-        for i in 0..1300usize {
-            content.push((i % 251) as u8)?;
-        }
+        let content = vec![in rt.alloc(); b'x'; 1300]?;
         fs::write(&rt, path, content.as_slice())?;
-        let mut shelf = DiskShelf::new(rt.alloc(), rt);
-        let mut text = b"in front".to_vec(rt.alloc())?;
+        let mut shelf = DiskShelf::new(rt.alloc(), &rt);
+        let mut text = b"in front ".to_vec(rt.alloc())?;
         assert_eq!(rt; shelf.load(rt.alloc(), path, 1200, &mut text), Ok(()));
-        assert!(rt; text.as_slice().starts_with(b"in front"));
+        assert_eq!(rt; text.len(), 1209);
+        assert_eq!(rt; shelf.load(rt.alloc(), path, 1301, &mut text), Ok(()));
+        assert_eq!(rt; text.len(), 2509);
+        assert!(rt; text.as_slice().starts_with(b"in front "));
+        assert_eq!(rt; text.iter().filter(|byte| **byte == b'x').count(), 2500);
+        fs::remove_file(&rt, path)?;
+        let failed = Err(ShelfFault::Failed);
+        assert_eq!(rt; shelf.load(rt.alloc(), path, 9, &mut text), failed);
+        assert_eq!(rt; text.len(), 2509);
+        assert_eq!(rt; (shelf.faults, shelf.last_failed.as_str()), (1, path));
         Ok(())
     }
 }

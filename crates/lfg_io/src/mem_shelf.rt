@@ -169,7 +169,11 @@ mod tests {
         ];
         let mut text = Vec::new(rt.alloc());
         for (name, limit, answer, loaded, last_failed) in calls {
-            assert_eq!(rt; shelf.load(rt.alloc(), name, limit, &mut text), answer, "loading {name}");
+            assert_eq!(rt;
+                shelf.load(rt.alloc(), name, limit, &mut text),
+                answer,
+                "loading {name}"
+            );
             assert_eq!(rt; text.as_slice(), loaded.as_bytes(), "after {name}");
             assert_eq!(rt; shelf.last_failed(), last_failed, "after {name}");
         }

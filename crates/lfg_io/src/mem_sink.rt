@@ -165,11 +165,13 @@ mod tests {
     }
 
     #[test]
-    fn takes_pieces_within_the_room(rt: HostRuntime) -> Result<(), Fail> {
-        let mut sink = MemSink::new(rt.alloc(), Vec::new(rt.alloc()), 9)?;
-        let word = "no file";
-        assert_eq!(rt; put_pieces(&mut sink, &[b"xle: ", word.as_bytes(), b"\n"]), Err(SinkFault::Failed));
-        assert_eq!(rt; sink.written(), b"xle: no f");
+    fn puts_pieces_up_to_the_first_fault(rt: HostRuntime) -> Result<(), Fail> {
+        let mut sink = MemSink::new(rt.alloc(), Vec::new(rt.alloc()), 14)?;
+        let name = "a.lfg";
+        let line = [b"xle: ".as_slice(), name.as_bytes(), b"\n".as_slice()];
+        assert_eq!(rt; put_pieces(&mut sink, &line), Ok(()));
+        assert_eq!(rt; put_pieces(&mut sink, &line), Err(SinkFault::Failed));
+        assert_eq!(rt; sink.written(), b"xle: a.lfg\nxle".as_slice());
         Ok(())
     }
 }

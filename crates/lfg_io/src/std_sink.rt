@@ -52,3 +52,29 @@ impl<W: Write> Sink for StdSink<W> {
         answer
     }
 }
+
+#[cfg(test)]
+mod tests {
+    use super::*;
+    use std::fs;
+    use std::test::Fail;
+
+    #[test]
+    fn writes_until_the_stream_takes_nothing(rt: HostRuntime) -> Result<(), Fail> {
+        let path = "lfg_io_std_sink_test";
+        let mut file = StdSink::new(fs::create(&rt, path)?);
+        for piece in ["the ", "", "man"] {
+            assert_eq!(rt; file.put(piece.as_bytes()), Ok(()), "putting {piece}");
+        }
+        assert_eq!(rt; fs::read(&rt, path)?.as_slice(), b"the man".as_slice());
+        fs::remove_file(&rt, path)?;
+
+        let mut room = [0u8; 4];
+        let mut full = StdSink::new(room.as_mut_slice());
+        assert_eq!(rt; full.put(b"the"), Ok(()));
+        assert_eq!(rt; full.put(b" man"), Err(SinkFault::Failed));
+        assert_eq!(rt; full.faults, 1);
+        assert_eq!(rt; room, *b"the ");
+        Ok(())
+    }
+}

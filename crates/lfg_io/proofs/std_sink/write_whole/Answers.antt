@@ -1,4 +1,4 @@
-use Rattle.std.proofs.Common.{◌≡◌, ℕ, ◌≤◌, ◌+◌, List, [], ◌++◌, take, drop, length, ◌-◌, length-drop, subst, sym, ap, ◌∙◌, append_assoc, arith}
+use Rattle.std.proofs.Common.{◌≡◌, ℕ, ◌≤◌, ◌+◌, List, ◌++◌, take, drop, length, ◌-◌, length-drop, subst, sym, ap, ◌∙◌, append_assoc, arith}
 use Rattle.std.specs.Prelude.{Option, Some, None}
 use Rattle.std.proofs.Math.Seq.{take-add}
 use Rattle.std.proofs.lemmas.List.{take_rest}
@@ -24,6 +24,6 @@ loop-taken-preserved g c =
     let within : count ≤ length (drop taken bytes) = subst (λ piece. count ≤ length piece) rest c.in-Ok.ensures.bound in
     let more = subst (λ piece. Appends now new (take count piece)) rest c.in-Ok.ensures.bytes in
     let whole = Appends-more (g.W.Write.contents c.args.stream.now) now new
-      (take (taken + count) bytes) (take taken bytes) (take count (drop taken bytes)) (take-add taken count bytes) c.loop-taken.invariant.1 more in
+    (take (taken + count) bytes) (take taken bytes) (take count (drop taken bytes)) (take-add taken count bytes) c.loop-taken.invariant.1 more in
     let fits : taken + count ≤ length bytes = omega (arith, length-drop taken bytes) in
     (fits, whole, λ none. let no : ⊥ = omega (arith, ap length none) in absurd no)
