@@ -1,4 +1,4 @@
-ghost use Rattle.std.specs.Prelude.{◌≡◌, [], None, OnOk, OnErr, string_bytes};
+ghost use Rattle.std.specs.Prelude.{◌≡◌, ◌++◌, [], None, IfSome, OnOk, OnErr, string_bytes, take};
 ghost use Rattle.lfg_io.specs.Shelf.{IsLoaded};
 
 use crate::counts::raise;
@@ -33,25 +33,19 @@ impl<R: Files> DiskShelf<R> {
     }
 }
 
-/// Appends at most `limit` bytes of the file. What was appended before a fault is taken back.
-fn load_from<R: Files>(
-    rt: &R,
-    name: &str,
-    limit: usize,
-    into: &mut Vec<u8>,
-) -> Result<(), ShelfFault>
-    ensures loaded { OnOk result (IsLoaded None name.now limit into.old.items into.new.items) }
+/// Appends the first `limit` bytes that the reader gives, or all if they are fewer. A read that gives
+/// no byte where some were asked for is the end. What was appended before a fault is taken back.
+fn append_from<R: Read>(reader: &mut R, limit: usize, into: &mut Vec<u8>) -> Result<(), ShelfFault>
+    ensures within { OnOk result (IsLoaded None [] limit into.old.items into.new.items) }
+    ensures known { OnOk result (IfSome (R.remaining reader.old) (λ bytes. into.new.items ≡ into.old.items ++ take limit bytes)) }
     ensures refused { OnErr result (into.new.items ≡ into.old.items) }
 {
     let start = into.len();
-    let Ok(mut file) = fs::open(rt, name) else {
-        return Err(ShelfFault::Failed);
-    };
     let mut buffer = [0u8; CHUNK];
     let mut left = limit;
     while left > 0 {
         let most = left.min(CHUNK);
-        match file.read(&mut buffer[..most]) {
+        match reader.read(&mut buffer[..most]) {
             Ok(0) => break,
             Ok(count) => {
                 if into.extend_from_slice(&buffer[..count]).is_err() {
@@ -67,6 +61,22 @@ fn load_from<R: Files>(
         }
     }
     Ok(())
+}
+
+/// Appends the first `limit` bytes of the file, or all of a shorter one.
+fn load_from<R: Files>(
+    rt: &R,
+    name: &str,
+    limit: usize,
+    into: &mut Vec<u8>,
+) -> Result<(), ShelfFault>
+    ensures loaded { OnOk result (IsLoaded None name.now limit into.old.items into.new.items) }
+    ensures refused { OnErr result (into.new.items ≡ into.old.items) }
+{
+    match fs::open(rt, name) {
+        Ok(mut file) => append_from(&mut file, limit, into),
+        Err(_) => Err(ShelfFault::Failed),
+    }
 }
 
 impl<R: Files> Shelf for DiskShelf<R> {
@@ -96,5 +106,32 @@ impl<R: Files> Shelf for DiskShelf<R> {
             }
             other => other,
         }
+    }
+}
+
+#[cfg(test)]
+mod tests {
+    use super::*;
+    use std::test::Fail;
+
+    #[test]
+    fn loads_the_file_up_to_the_limit(rt: HostRuntime) -> Result<(), Fail> {
+        let path = "lfg_io_disk_shelf_test";
+        let content = vec![in rt.alloc(); b'x'; 1300]?;
+        fs::write(&rt, path, content.as_slice())?;
+        let mut shelf = DiskShelf::new(rt.alloc(), &rt);
+        let mut text = b"in front ".to_vec(rt.alloc())?;
+        assert_eq!(rt; shelf.load(rt.alloc(), path, 1200, &mut text), Ok(()));
+        assert_eq!(rt; text.len(), 1209);
+        assert_eq!(rt; shelf.load(rt.alloc(), path, 1301, &mut text), Ok(()));
+        assert_eq!(rt; text.len(), 2509);
+        assert!(rt; text.as_slice().starts_with(b"in front "));
+        assert_eq!(rt; text.iter().filter(|byte| **byte == b'x').count(), 2500);
+        fs::remove_file(&rt, path)?;
+        let failed = Err(ShelfFault::Failed);
+        assert_eq!(rt; shelf.load(rt.alloc(), path, 9, &mut text), failed);
+        assert_eq!(rt; text.len(), 2509);
+        assert_eq!(rt; (shelf.faults, shelf.last_failed.as_str()), (1, path));
+        Ok(())
     }
 }

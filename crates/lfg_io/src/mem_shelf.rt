@@ -143,3 +143,41 @@ impl Shelf for MemShelf {
         }
     }
 }
+
+#[cfg(test)]
+mod tests {
+    use super::*;
+    use std::test::Fail;
+
+    #[test]
+    fn loads_the_first_of_a_name_and_fails_at_the_listed_calls(
+        rt: HostRuntime,
+    ) -> Result<(), Fail> {
+        let mut files = Vec::new(rt.alloc());
+        for (name, text) in [("g", "rules"), ("g", "other"), ("s", "the man")] {
+            let bytes = text.as_bytes().to_vec(rt.alloc())?;
+            files.push((Name::new(rt.alloc(), name)?, bytes))?;
+        }
+        let mut shelf = MemShelf::new(rt.alloc(), files, vec![in rt.alloc(); 3]?)?;
+        let failed = Err(ShelfFault::Failed);
+        let calls = [
+            ("g", 4, Ok(()), "rule", ""),
+            ("s", 9, Ok(()), "rulethe man", ""),
+            ("g", 9, failed, "rulethe man", "g"),
+            ("x", 9, failed, "rulethe man", "x"),
+            ("g", 9, Ok(()), "rulethe manrules", "x"),
+        ];
+        let mut text = Vec::new(rt.alloc());
+        for (name, limit, answer, loaded, last_failed) in calls {
+            assert_eq!(rt;
+                shelf.load(rt.alloc(), name, limit, &mut text),
+                answer,
+                "loading {name}"
+            );
+            assert_eq!(rt; text.as_slice(), loaded.as_bytes(), "after {name}");
+            assert_eq!(rt; shelf.last_failed(), last_failed, "after {name}");
+        }
+        assert_eq!(rt; shelf.faults(), 2);
+        Ok(())
+    }
+}

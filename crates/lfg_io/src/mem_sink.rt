@@ -136,3 +136,42 @@ impl Sink for MemSink {
         Err(SinkFault::Failed)
     }
 }
+
+#[cfg(test)]
+mod tests {
+    use super::*;
+    use crate::sink::put_pieces;
+    use std::test::Fail;
+
+    #[test]
+    fn fails_at_the_listed_calls_and_at_the_end_of_the_room(rt: HostRuntime) -> Result<(), Fail> {
+        let fails = vec![in rt.alloc(); (2, 1), (2, 2), (3, 9)]?;
+        let mut sink = MemSink::new(rt.alloc(), fails, 7)?;
+        let failed = Err(SinkFault::Failed);
+        let calls = [
+            ("ab", Ok(()), "ab"),
+            ("", Ok(()), "ab"),
+            ("cd", failed, "abc"),
+            ("ef", failed, "abcef"),
+            ("g", Ok(()), "abcefg"),
+            ("hi", failed, "abcefgh"),
+        ];
+        for (piece, answer, written) in calls {
+            assert_eq!(rt; sink.put(piece.as_bytes()), answer, "putting {piece}");
+            assert_eq!(rt; sink.written(), written.as_bytes(), "after {piece}");
+        }
+        assert_eq!(rt; sink.faults(), 3);
+        Ok(())
+    }
+
+    #[test]
+    fn puts_pieces_up_to_the_first_fault(rt: HostRuntime) -> Result<(), Fail> {
+        let mut sink = MemSink::new(rt.alloc(), Vec::new(rt.alloc()), 14)?;
+        let name = "a.lfg";
+        let line = [b"xle: ".as_slice(), name.as_bytes(), b"\n".as_slice()];
+        assert_eq!(rt; put_pieces(&mut sink, &line), Ok(()));
+        assert_eq!(rt; put_pieces(&mut sink, &line), Err(SinkFault::Failed));
+        assert_eq!(rt; sink.written(), b"xle: a.lfg\nxle".as_slice());
+        Ok(())
+    }
+}

@@ -1,4 +1,5 @@
-ghost use Rattle.std.specs.Prelude.{◌≡◌, None};
+ghost use Rattle.std.specs.Prelude.{◌≡◌, ℕ, ◌≤◌, [], None, IsOk, OnOk, OnErr, length, take};
+ghost use Rattle.std.specs.Io.KnownBytes.{Appends};
 
 use crate::counts::raise;
 use crate::sink::{Sink, SinkFault};
@@ -20,6 +21,22 @@ impl<W: Write> StdSink<W> {
     }
 }
 
+/// Writes until the stream has taken all bytes. A write that takes nothing is a fault.
+fn write_whole<W: Write>(stream: &mut W, bytes: &[u8]) -> Result<(), SinkFault>
+    ensures written { OnOk result (Appends (W.contents stream.old) (W.contents stream.new) bytes.now) }
+    ensures cut { OnErr result ((count : ℕ) × (count ≤ length bytes.now) × Appends (W.contents stream.old) (W.contents stream.new) (take count bytes.now)) }
+    ensures nothing { bytes.now ≡ [] → IsOk result × (stream.new ≡ stream.old) }
+{
+    let mut taken = 0;
+    while taken < bytes.len() {
+        match stream.write(&bytes[taken..]) {
+            Ok(count) if count > 0 => taken += count,
+            _ => return Err(SinkFault::Failed),
+        }
+    }
+    Ok(())
+}
+
 impl<W: Write> Sink for StdSink<W> {
     ghost written = { λ _. None };
 
@@ -27,18 +44,37 @@ impl<W: Write> Sink for StdSink<W> {
 
     ghost faults = { λ sink. sink.faults };
 
-    /// Writes until the stream has taken all bytes. A write that takes nothing is a fault.
     fn put(&mut self, bytes: &[u8]) -> Result<(), SinkFault> {
-        let mut rest = bytes;
-        while !rest.is_empty() {
-            match self.stream.write(rest) {
-                Ok(count) if count > 0 => rest = &rest[count..],
-                _ => {
-                    self.faults = raise(self.faults);
-                    return Err(SinkFault::Failed);
-                }
-            }
+        let answer = write_whole(&mut self.stream, bytes);
+        if answer.is_err() {
+            self.faults = raise(self.faults);
         }
+        answer
+    }
+}
+
+#[cfg(test)]
+mod tests {
+    use super::*;
+    use std::fs;
+    use std::test::Fail;
+
+    #[test]
+    fn writes_until_the_stream_takes_nothing(rt: HostRuntime) -> Result<(), Fail> {
+        let path = "lfg_io_std_sink_test";
+        let mut file = StdSink::new(fs::create(&rt, path)?);
+        for piece in ["the ", "", "man"] {
+            assert_eq!(rt; file.put(piece.as_bytes()), Ok(()), "putting {piece}");
+        }
+        assert_eq!(rt; fs::read(&rt, path)?.as_slice(), b"the man".as_slice());
+        fs::remove_file(&rt, path)?;
+
+        let mut room = [0u8; 4];
+        let mut full = StdSink::new(room.as_mut_slice());
+        assert_eq!(rt; full.put(b"the"), Ok(()));
+        assert_eq!(rt; full.put(b" man"), Err(SinkFault::Failed));
+        assert_eq!(rt; full.faults, 1);
+        assert_eq!(rt; room, *b"the ");
         Ok(())
     }
 }
