@@ -1,6 +1,6 @@
 -- The texts of nodes, arguments and facts.
-use Rattle.std.specs.Prelude.{ℕ, ◌+◌, List, [], ◌∷◌, ◌++◌, Option, Some, None, decimal, map, position, IsSome}
-use Rattle.std.specs.List.{join_with_byte}
+use Rattle.std.specs.Prelude.{ℕ, ◌≢◌, ◌+◌, List, [], ◌∷◌, ◌++◌, Option, Some, None, decimal, map, position, IsSome}
+use Rattle.std.specs.List.{join_with_byte, All}
 use Rattle.std.specs.Ordering.{eq_by_cmp}
 use Rattle.lfg_terms.specs.Order.{node_cmp}
 use Rattle.lfg_terms.specs.declared.node.Node.{Node, out-Node}
@@ -8,7 +8,7 @@ use Rattle.lfg_terms.specs.declared.node.Arg.{Arg, out-Arg}
 use Rattle.lfg_terms.specs.declared.node.Arg.TheOpen.{Node-F, Arg-F}
 use Rattle.lfg_terms.specs.declared.node.Arg.TheOpen as layer
 use Rattle.lfg_terms.specs.declared.node.Fact.{Fact}
-use Rattle.lfg_terms.specs.Texts.{name_text, edge_text}
+use Rattle.lfg_terms.specs.Texts.{name_text, edge_text, IsPlaced}
 
 -- each attribute behind a slash
 abbrev pub path_text : List (List ℕ) → List ℕ
@@ -60,3 +60,37 @@ IsListedArgLayer table (layer.Node node) = IsListed table node
 
 abbrev pub IsListedArg : List Node → Arg → Type 0
 IsListedArg table x = IsListedArgLayer table (out-Arg x)
+
+-- the places of the edges in a node, an argument or a fact are numbers of 32 bits
+abbrev pub IsPlacedLayer : Node-F Arg Node → Type 0
+IsPlacedLayer (layer.At edge path) = IsPlaced edge
+IsPlacedLayer (layer.New rule var binding) = Unit {0}
+
+abbrev pub IsPlacedNode : Node → Type 0
+IsPlacedNode n = IsPlacedLayer (out-Node n)
+
+abbrev pub IsPlacedArgLayer : Arg-F Arg Node → Type 0
+IsPlacedArgLayer (layer.Atom name) = Unit {0}
+IsPlacedArgLayer (layer.Node node) = IsPlacedNode node
+
+abbrev pub IsPlacedArg : Arg → Type 0
+IsPlacedArg x = IsPlacedArgLayer (out-Arg x)
+
+abbrev pub IsPlacedFact : Fact → Type 0
+IsPlacedFact fact = All IsPlacedArg fact.args
+
+-- the argument is not the empty atom
+abbrev pub IsNamedLayer : Arg-F Arg Node → Type 0
+IsNamedLayer (layer.Atom name) = name ≢ []
+IsNamedLayer (layer.Node node) = Unit {0}
+
+abbrev pub IsNamedArg : Arg → Type 0
+IsNamedArg x = IsNamedLayer (out-Arg x)
+
+-- no argument of the fact is the empty atom
+abbrev pub IsNamed : Fact → Type 0
+IsNamed fact = All IsNamedArg fact.args
+
+-- each new node that is an argument of the fact stands in the table
+abbrev pub IsListedFact : List Node → Fact → Type 0
+IsListedFact table fact = All (IsListedArg table) fact.args

@@ -1,5 +1,5 @@
 -- The texts of names and edges.
-use Rattle.std.specs.Prelude.{◌≡◌, length, take, ℕ, Bool, false, not, ◌&&◌, ◌||◌, ◌==◌, nat_lt, if◌then◌else◌, List, [], ◌∷◌, ◌++◌, Option, Some, None, decimal}
+use Rattle.std.specs.Prelude.{◌≡◌, ◌<◌, ◌^◌, length, take, ℕ, Bool, false, not, ◌&&◌, ◌||◌, ◌==◌, nat_lt, if◌then◌else◌, List, [], ◌∷◌, ◌++◌, Option, Some, None, decimal}
 use Rattle.lfg_terms.specs.declared.node.Edge.{Edge}
 
 abbrev pub is_within : ℕ → ℕ → ℕ → Bool
@@ -35,6 +35,10 @@ name_text = text_after None
 
 abbrev pub edge_text : Edge → List ℕ
 edge_text e = name_text e.cat ++ 58 ∷ decimal e.from ++ 58 ∷ decimal e.to
+
+-- both places of the edge are numbers of 32 bits
+abbrev pub IsPlaced : Edge → Type 0
+IsPlaced e = (e.from < 2 ^ 32) × (e.to < 2 ^ 32)
 
 -- what stood in a text still stands at its front
 abbrev pub Keeps : List ℕ → List ℕ → Type 0

@@ -1,7 +1,8 @@
 ghost use Rattle.std.specs.Prelude.{◌≡◌, ◌++◌, ◌∷◌, [], ◌<◌, ◌^◌, IfOk, IfSome, OnOk, OnErr, length};
 ghost use Rattle.std.specs.List.{All};
 ghost use Rattle.lfg_terms.specs.Texts.{name_text, edge_text, Keeps};
-ghost use Rattle.lfg_terms.specs.FactTexts.{path_text, place_in, node_text, arg_text, args_text, fact_text, IsListed, IsListedArg};
+ghost use Rattle.lfg_terms.specs.FactTexts.{path_text, place_in, node_text, arg_text, args_text, fact_text, IsListed, IsListedArg, IsListedFact, IsPlacedNode, IsPlacedArg, IsPlacedFact, IsNamed};
+ghost use Rattle.lfg_terms.specs.declared.node.Fact.{Fact};
 
 use crate::name::Name;
 use crate::node::{Arg, Fact, Node};
@@ -46,6 +47,7 @@ fn push_node(
 ) -> Result<(), AllocError>
     requires { IsListed table.now node.now }
     ensures ok { OnOk result (text.new.items ≡ text.old.items ++ node_text table.now node.now) }
+    ensures placed { OnOk result (IsPlacedNode node.now) }
     ensures err { OnErr result (Keeps text.old.items text.new.items) }
 {
     match node {
@@ -79,6 +81,7 @@ pub fn push_arg(
 ) -> Result<(), AllocError>
     requires { IsListedArg table.now arg.now }
     ensures ok { OnOk result (text.new.items ≡ text.old.items ++ arg_text table.now arg.now) }
+    ensures placed { OnOk result (IsPlacedArg arg.now) }
     ensures err { OnErr result (Keeps text.old.items text.new.items) }
 {
     match arg {
@@ -96,6 +99,7 @@ fn push_other_arg(
 ) -> Result<(), AllocError>
     requires { IsListedArg table.now arg.now }
     ensures ok { OnOk result (text.new.items ≡ text.old.items ++ 44 ∷ arg_text table.now arg.now) }
+    ensures placed { OnOk result (IsPlacedArg arg.now) }
     ensures err { OnErr result (Keeps text.old.items text.new.items) }
 {
     text.push(b',')?;
@@ -117,6 +121,7 @@ pub fn push_args(
 ) -> Result<(), AllocError>
     requires { All (IsListedArg table.now) args.now }
     ensures ok { OnOk result (text.new.items ≡ text.old.items ++ args_text table.now args.now) }
+    ensures placed { OnOk result (All IsPlacedArg args.now) }
     ensures err { OnErr result (Keeps text.old.items text.new.items) }
 {
     if let Some((first, others)) = args.split_first() {
@@ -141,8 +146,9 @@ pub fn push_fact(
     fact: &Fact,
     table: &[Node],
 ) -> Result<(), AllocError>
-    requires { All (IsListedArg table.now) fact.now.args }
+    requires { IsListedFact table.now fact.now }
     ensures ok { OnOk result (text.new.items ≡ text.old.items ++ fact_text table.now fact.now) }
+    ensures placed { OnOk result (IsPlacedFact fact.now) }
     ensures err { OnErr result (Keeps text.old.items text.new.items) }
 {
     push_name(text, &fact.rel)?;
@@ -161,8 +167,11 @@ pub fn push_fact(
 ///
 /// Only for want of memory.
 pub fn fact_text(alloc: Global, fact: &Fact, table: &[Node]) -> Result<Vec<u8>, AllocError>
-    requires { All (IsListedArg table.now) fact.now.args }
-    ensures { IfOk result (λ text. text.items ≡ fact_text table.now fact.now) }
+    requires { IsListedFact table.now fact.now }
+    ensures value { IfOk result (λ text. text.items ≡ fact_text table.now fact.now) }
+    ensures placed { OnOk result (IsPlacedFact fact.now) }
+    ensures distinct { IfOk result (λ text. (other : Fact) → IsListedFact table.now other → IsPlacedFact other →
+        IsNamed other → IsNamed fact.now → fact_text table.now other ≡ text.items → other ≡ fact.now) }
 {
     let mut text = Vec::new(alloc);
     push_fact(alloc, &mut text, fact, table)?;

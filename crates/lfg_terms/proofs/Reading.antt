@@ -1,12 +1,12 @@
--- Texts read back, which shows that two names or edges with one text are one.
-use Rattle.std.specs.Prelude.{◌≡◌, ℕ, ◌<◌, ◌^◌, Bool, true, false, ◌&&◌, ◌||◌, ◌==◌, if◌then◌else◌, List, [], ◌∷◌, ◌++◌, Option, Some, None, decimal, refl}
-use Rattle.std.proofs.Common.{ap, sym, subst, ◌∙◌, append_assoc, arith, cond}
+-- Texts read back: two names or edges with one text are one.
+use Rattle.std.specs.Prelude.{◌≡◌, ℕ, ◌<◌, ◌≤◌, ◌^◌, Bool, true, false, ◌&&◌, ◌||◌, ◌==◌, if◌then◌else◌, List, [], ◌∷◌, ◌++◌, Option, Some, None, decimal, refl}
+use Rattle.std.proofs.Common.{ap, sym, ◌∙◌, append_assoc, arith, cond}
 use Rattle.std.proofs.lemmas.Bool.Decides.{nat_tests}
 use Rattle.std.proofs.lemmas.Fmt.{decimal_injective, decimal_is_IsNumeral}
 use Rattle.std.specs.Str.Parse.{AllDigits}
 use Rattle.std.specs.Char.{digit_value}
 use Rattle.lfg_terms.specs.declared.node.Edge.{Edge}
-use Rattle.lfg_terms.specs.Texts.{is_plain, joins, is_bare, first, text_after, name_text, edge_text}
+use Rattle.lfg_terms.specs.Texts.{is_plain, joins, is_bare, first, text_after, name_text, edge_text, IsPlaced}
 
 -- a byte that may stand in a name's text by itself
 abbrev pub is_inside : ℕ → Bool
@@ -73,35 +73,51 @@ name_text_splits v w r s p q e =
 pub name_text_injective : (v w : List ℕ) → name_text v ≡ name_text w → v ≡ w
 name_text_injective v w e = (name_text_splits v w [] [] tt tt (ap (λ t. t ++ []) e)).0
 
--- what stands before the first colon, and behind it
-abbrev cut : List ℕ → List ℕ × List ℕ
-cut [] = ([], [])
-cut (b ∷ bs) = if b == 58 then ([], bs) else onto b (cut bs)
+-- ---- numbers and edges
 
-digit_no_colon : (b : ℕ) → digit_value b < 10 → (b == 58) ≡ false
-digit_no_colon b h = go (b == 58) refl
-  where
-    go : (x : Bool) → (b == 58) ≡ x → x ≡ false
-    go false e = refl
-    go true e =
-        let q : b ≡ 58 = grind (arith, nat_tests) in
-        let r : digit_value 58 < 10 = subst (λ (m : ℕ). digit_value m < 10) q h in
-        let no : ⊥ = omega arith in
-        absurd no
+-- the text ends, or goes on with a byte that is no digit
+abbrev pub StopsDigits : List ℕ → Type 0
+StopsDigits [] = Unit {0}
+StopsDigits (b ∷ bs) = 10 ≤ digit_value b
 
-cut_digits : (ds rest : List ℕ) → AllDigits 10 ds → cut (ds ++ 58 ∷ rest) ≡ (ds, rest)
-cut_digits [] rest h = refl
-cut_digits (b ∷ ds) rest h = ap (λ x. cond x ([], ds ++ 58 ∷ rest) (onto b (cut (ds ++ 58 ∷ rest)))) (digit_no_colon b h.0) ∙ ap (onto b) (cut_digits ds rest h.1)
+digits_split : (c d r s : List ℕ) → AllDigits 10 c → AllDigits 10 d → StopsDigits r → StopsDigits s → c ++ r ≡ d ++ s → (c ≡ d) × (r ≡ s)
+digits_split [] [] r s p q h k e = (refl, e)
+digits_split [] (y ∷ d) [] s p q h k e = cc
+digits_split [] (y ∷ d) (x ∷ r) s p q h k e =
+    let same : x ≡ y = cc in
+    let no : ⊥ = omega (arith, ap digit_value same, h, q.0) in
+    absurd no
+digits_split (x ∷ c) [] r [] p q h k e = cc
+digits_split (x ∷ c) [] r (y ∷ s) p q h k e =
+    let same : x ≡ y = cc in
+    let no : ⊥ = omega (arith, ap digit_value same, k, p.0) in
+    absurd no
+digits_split (x ∷ c) (y ∷ d) r s p q h k e =
+    let first : x ≡ y = cc in
+    let rest : c ++ r ≡ d ++ s = cc in
+    let more = digits_split c d r s p.1 q.1 h k rest in
+    (λ i. first i ∷ more.0 i, more.1)
 
-pub edge_text_injective : (e f : Edge) → e.from < 2 ^ 64 → e.to < 2 ^ 64 → f.from < 2 ^ 64 → f.to < 2 ^ 64 → edge_text e ≡ edge_text f → e ≡ f
-edge_text_injective e f a b c d h =
-    let g : name_text e.cat ++ (58 ∷ (decimal e.from ++ 58 ∷ decimal e.to)) ≡ name_text f.cat ++ (58 ∷ (decimal f.from ++ 58 ∷ decimal f.to)) =
-    sym (append_assoc (name_text e.cat) (58 ∷ decimal e.from) (58 ∷ decimal e.to)) ∙ h ∙ append_assoc (name_text f.cat) (58 ∷ decimal f.from) (58 ∷ decimal f.to) in
-    let k = name_text_splits e.cat f.cat (58 ∷ (decimal e.from ++ 58 ∷ decimal e.to)) (58 ∷ (decimal f.from ++ 58 ∷ decimal f.to)) (refl, refl) (refl, refl) g in
-    let t : decimal e.from ++ 58 ∷ decimal e.to ≡ decimal f.from ++ 58 ∷ decimal f.to = cc in
-    let m : (decimal e.from, decimal e.to) ≡ (decimal f.from, decimal f.to) =
-    sym (cut_digits (decimal e.from) (decimal e.to) (decimal_is_IsNumeral e.from a).0.1) ∙ ap cut t ∙ cut_digits (decimal f.from) (decimal f.to) (decimal_is_IsNumeral f.from c).0.1 in
-    let x : e.cat ≡ f.cat = k.0 in
-    let y : e.from ≡ f.from = decimal_injective e.from f.from a c (ap (λ z. z.0) m) in
-    let z : e.to ≡ f.to = decimal_injective e.to f.to b d (ap (λ z. z.1) m) in
-    λ i. record { cat = x i; from = y i; to = z i }
+-- a number's text and a stop behind it give back the number and what follows
+pub decimal_splits : (m n : ℕ) (r s : List ℕ) → m < 2 ^ 64 → n < 2 ^ 64 → StopsDigits r → StopsDigits s → decimal m ++ r ≡ decimal n ++ s → (m ≡ n) × (r ≡ s)
+decimal_splits m n r s a b h k e =
+    let both = digits_split (decimal m) (decimal n) r s (decimal_is_IsNumeral m a).0.1 (decimal_is_IsNumeral n b).0.1 h k e in
+    (decimal_injective m n a b both.0, both.1)
+
+edge_text-append : (e : Edge) (r : List ℕ) → edge_text e ++ r ≡ name_text e.cat ++ (58 ∷ (decimal e.from ++ (58 ∷ (decimal e.to ++ r))))
+edge_text-append e r =
+    append_assoc (name_text e.cat ++ 58 ∷ decimal e.from) (58 ∷ decimal e.to) r ∙ append_assoc (name_text e.cat) (58 ∷ decimal e.from) (58 ∷ decimal e.to ++ r)
+
+-- an edge's text and a stop behind it give back the edge and what follows
+pub edge_text_splits : (e f : Edge) (r s : List ℕ) → IsPlaced e → IsPlaced f → StopsDigits r → StopsDigits s → edge_text e ++ r ≡ edge_text f ++ s → (e ≡ f) × (r ≡ s)
+edge_text_splits e f r s a b h k same =
+    let name = name_text_splits e.cat f.cat (58 ∷ (decimal e.from ++ (58 ∷ (decimal e.to ++ r)))) (58 ∷ (decimal f.from ++ (58 ∷ (decimal f.to ++ s)))) (refl, refl) (refl, refl)
+    (sym (edge_text-append e r) ∙ same ∙ edge_text-append f s) in
+    let behind : decimal e.from ++ (58 ∷ (decimal e.to ++ r)) ≡ decimal f.from ++ (58 ∷ (decimal f.to ++ s)) = cc (name.1) in
+    let from = decimal_splits e.from f.from (58 ∷ (decimal e.to ++ r)) (58 ∷ (decimal f.to ++ s)) (omega (arith, a.0)) (omega (arith, b.0)) (omega arith) (omega arith) behind in
+    let last : decimal e.to ++ r ≡ decimal f.to ++ s = cc (from.1) in
+    let to = decimal_splits e.to f.to r s (omega (arith, a.1)) (omega (arith, b.1)) h k last in
+    (λ i. record { cat = name.0 i; from = from.0 i; to = to.0 i }, to.1)
+
+pub edge_text_injective : (e f : Edge) → IsPlaced e → IsPlaced f → edge_text e ≡ edge_text f → e ≡ f
+edge_text_injective e f a b same = (edge_text_splits e f [] [] a b tt tt (ap (λ t. t ++ []) same)).0
