@@ -5,8 +5,8 @@ use Rattle.std.specs.List.{All}
 use Rattle.std.specs.Ordering.{eq_by_cmp}
 use Rattle.std.proofs.lemmas.List.Quantifiers.{position-Some}
 use Rattle.lfg_terms.specs.Order.{node_cmp}
-use Rattle.lfg_terms.specs.Texts.{name_text, edge_text}
-use Rattle.lfg_terms.specs.FactTexts.{path_text, place_in, layer_text, node_text, arg_layer_text, arg_text, args_text, fact_text, IsListedLayer, IsListed, IsListedArgLayer, IsListedArg, IsPlacedLayer, IsPlacedNode, IsPlacedArgLayer, IsPlacedFact, IsNamedLayer, IsNamed, IsListedFact}
+use Rattle.lfg_terms.specs.Texts.{colon, name_text, edge_text}
+use Rattle.lfg_terms.specs.FactTexts.{hash, opening, closing, comma, slash, path_text, place_in, layer_text, node_text, arg_layer_text, arg_text, args_text, fact_text, IsListedLayer, IsListed, IsListedArgLayer, IsListedArg, IsPlacedLayer, IsPlacedNode, IsPlacedArgLayer, IsPlacedFact, IsNamedLayer, IsNamed, IsListedFact}
 use Rattle.lfg_terms.specs.declared.node.Edge.{Edge}
 use Rattle.lfg_terms.specs.declared.node.Fact.{Fact}
 use Rattle.lfg_terms.specs.declared.node.Node.{Node, out-Node}
@@ -20,15 +20,15 @@ use Rattle.lfg_terms.proofs.Ties.{node_eq_same}
 
 -- the text goes on with a comma or the closing bracket
 abbrev Ends : List ℕ → Type 0
-Ends r = (rest : List ℕ) × ((r ≡ 44 ∷ rest) ⊎ (r ≡ 41 ∷ rest))
+Ends r = (rest : List ℕ) × ((r ≡ comma ∷ rest) ⊎ (r ≡ closing ∷ rest))
 
 ends_stops : (r : List ℕ) → Ends r → Stops r
 ends_stops r (rest, inl e) = subst Stops (sym e) (refl, refl)
 ends_stops r (rest, inr e) = subst Stops (sym e) (refl, refl)
 
 ends_digits : (r : List ℕ) → Ends r → StopsDigits r
-ends_digits r (rest, inl e) = let stops : StopsDigits (44 ∷ rest) = omega arith in subst StopsDigits (sym e) stops
-ends_digits r (rest, inr e) = let stops : StopsDigits (41 ∷ rest) = omega arith in subst StopsDigits (sym e) stops
+ends_digits r (rest, inl e) = let stops : StopsDigits (comma ∷ rest) = omega arith in subst StopsDigits (sym e) stops
+ends_digits r (rest, inr e) = let stops : StopsDigits (closing ∷ rest) = omega arith in subst StopsDigits (sym e) stops
 
 abbrev first_of : List ℕ → ℕ
 first_of [] = 0
@@ -39,21 +39,21 @@ behind_first [] = []
 behind_first (b ∷ bs) = bs
 
 -- no other byte ends an argument
-ends_other : (b : ℕ) (r s : List ℕ) → b ≢ 44 → b ≢ 41 → Ends r → r ≢ b ∷ s
+ends_other : (b : ℕ) (r s : List ℕ) → b ≢ comma → b ≢ closing → Ends r → r ≢ b ∷ s
 ends_other b r s p q (rest, inl e) h = p (ap first_of (sym h ∙ e))
 ends_other b r s p q (rest, inr e) h = q (ap first_of (sym h ∙ e))
 
-comma_no_bracket : (r s : List ℕ) → 44 ∷ r ≢ 41 ∷ s
-comma_no_bracket r s e = let heads : ◌≡◌ {A = ℕ} 44 41 = ap first_of e in omega arith
+comma_no_bracket : (r s : List ℕ) → comma ∷ r ≢ closing ∷ s
+comma_no_bracket r s e = let heads : ◌≡◌ {A = ℕ} comma closing = ap first_of e in omega arith
 
-ends_slash : (r s : List ℕ) → Ends r → r ≢ 47 ∷ s
-ends_slash r s = ends_other 47 r s (λ e. omega arith) (λ e. omega arith)
+ends_slash : (r s : List ℕ) → Ends r → r ≢ slash ∷ s
+ends_slash r s = ends_other slash r s (λ e. omega arith) (λ e. omega arith)
 
-ends_colon : (r s : List ℕ) → Ends r → r ≢ 58 ∷ s
-ends_colon r s = ends_other 58 r s (λ e. omega arith) (λ e. omega arith)
+ends_colon : (r s : List ℕ) → Ends r → r ≢ colon ∷ s
+ends_colon r s = ends_other colon r s (λ e. omega arith) (λ e. omega arith)
 
-ends_hash : (r s : List ℕ) → Ends r → r ≢ 35 ∷ s
-ends_hash r s = ends_other 35 r s (λ e. omega arith) (λ e. omega arith)
+ends_hash : (r s : List ℕ) → Ends r → r ≢ hash ∷ s
+ends_hash r s = ends_other hash r s (λ e. omega arith) (λ e. omega arith)
 
 -- an argument that its text tells
 abbrev IsTellingLayer : Arg-F Arg Node → Type 0
@@ -70,7 +70,7 @@ path_stops (v ∷ p) r h = (refl, refl)
 
 path_digits : (p : List (List ℕ)) (r : List ℕ) → StopsDigits r → StopsDigits (path_text p ++ r)
 path_digits [] r h = h
-path_digits (v ∷ p) r h = let stops : StopsDigits (47 ∷ []) = omega arith in stops
+path_digits (v ∷ p) r h = let stops : StopsDigits (slash ∷ []) = omega arith in stops
 
 path_text_splits : (p q : List (List ℕ)) (r s : List ℕ) → Ends r → Ends s → path_text p ++ r ≡ path_text q ++ s → (p ≡ q) × (r ≡ s)
 path_text_splits [] [] r s h k e = (refl, e)
@@ -86,17 +86,17 @@ path_text_splits (v ∷ p) (w ∷ q) r s h k e =
 -- ---- nodes
 
 -- a name's text begins with no hash
-name_no_hash : (v r s : List ℕ) → Stops r → r ≢ 35 ∷ s → name_text v ++ r ≢ 35 ∷ s
-name_no_hash v r s h k e = k ((name_text_splits v [] r (35 ∷ s) h (refl, refl) e).1)
+name_no_hash : (v r s : List ℕ) → Stops r → r ≢ hash ∷ s → name_text v ++ r ≢ hash ∷ s
+name_no_hash v r s h k e = k ((name_text_splits v [] r (hash ∷ s) h (refl, refl) e).1)
 
-edge_regroup : (e : Edge) (r : List ℕ) → edge_text e ++ r ≡ name_text e.cat ++ (58 ∷ ((decimal e.from ++ 58 ∷ decimal e.to) ++ r))
+edge_regroup : (e : Edge) (r : List ℕ) → edge_text e ++ r ≡ name_text e.cat ++ (colon ∷ ((decimal e.from ++ colon ∷ decimal e.to) ++ r))
 edge_regroup e r =
-    append_assoc (name_text e.cat ++ 58 ∷ decimal e.from) (58 ∷ decimal e.to) r ∙ append_assoc (name_text e.cat) (58 ∷ decimal e.from) (58 ∷ decimal e.to ++ r)
-    ∙ ap (λ t. name_text e.cat ++ (58 ∷ t)) (sym (append_assoc (decimal e.from) (58 ∷ decimal e.to) r))
+    append_assoc (name_text e.cat ++ colon ∷ decimal e.from) (colon ∷ decimal e.to) r ∙ append_assoc (name_text e.cat) (colon ∷ decimal e.from) (colon ∷ decimal e.to ++ r)
+    ∙ ap (λ t. name_text e.cat ++ (colon ∷ t)) (sym (append_assoc (decimal e.from) (colon ∷ decimal e.to) r))
 
-edge_no_hash : (e : Edge) (r s : List ℕ) → edge_text e ++ r ≢ 35 ∷ s
+edge_no_hash : (e : Edge) (r s : List ℕ) → edge_text e ++ r ≢ hash ∷ s
 edge_no_hash e r s h =
-    name_no_hash e.cat (58 ∷ ((decimal e.from ++ 58 ∷ decimal e.to) ++ r)) s (refl, refl) (λ k. let no : 58 ≡ 35 = ap first_of k in omega arith) (sym (edge_regroup e r) ∙ h)
+    name_no_hash e.cat (colon ∷ ((decimal e.from ++ colon ∷ decimal e.to) ++ r)) s (refl, refl) (λ k. let no : colon ≡ hash = ap first_of k in omega arith) (sym (edge_regroup e r) ∙ h)
 
 -- what two nodes with one text share: their layer, or their place in the table
 abbrev Alike : Option ℕ → Option ℕ → Node-F Arg Node → Node-F Arg Node → Type 0
@@ -157,8 +157,8 @@ module _ (table : List Node) (small : length table < 2 ^ 64) where
   -- an atom's text is no node's
   atom_no_node_layer : (v : List ℕ) (y : Option ℕ) (k : Node-F Arg Node) (r s : List ℕ) → IsListedLayer y k → Ends r → name_text v ++ r ≢ layer_text y k ++ s
   atom_no_node_layer v y (layer.At f q) r s d i same =
-      ends_colon r ((decimal f.from ++ 58 ∷ decimal f.to) ++ (path_text q ++ s)) i
-      (name_text_splits v f.cat r (58 ∷ ((decimal f.from ++ 58 ∷ decimal f.to) ++ (path_text q ++ s))) (ends_stops r i) (refl, refl)
+      ends_colon r ((decimal f.from ++ colon ∷ decimal f.to) ++ (path_text q ++ s)) i
+      (name_text_splits v f.cat r (colon ∷ ((decimal f.from ++ colon ∷ decimal f.to) ++ (path_text q ++ s))) (ends_stops r i) (refl, refl)
       (same ∙ append_assoc (edge_text f) (path_text q) s ∙ edge_regroup f (path_text q ++ s))).1
   atom_no_node_layer v None (layer.New rule var binding) r s d i same = none_absent d
   atom_no_node_layer v (Some n) (layer.New rule var binding) r s d i same =
@@ -187,56 +187,56 @@ module _ (table : List Node) (small : length table < 2 ^ 64) where
   all_rest : (P : Arg → Type 0) (x : Arg) (xs : List Arg) → All P (x ∷ xs) → All P xs
   all_rest P x xs h k d l = h (suc k) d (omega arith)
 
-  tail_ends : (xs : List Arg) (r : List ℕ) → Ends (tail_text table xs ++ (41 ∷ r))
+  tail_ends : (xs : List Arg) (r : List ℕ) → Ends (tail_text table xs ++ (closing ∷ r))
   tail_ends [] r = (r, inr refl)
-  tail_ends (x ∷ xs) r = ((arg_text table x ++ tail_text table xs) ++ (41 ∷ r), inl refl)
+  tail_ends (x ∷ xs) r = ((arg_text table x ++ tail_text table xs) ++ (closing ∷ r), inl refl)
 
   tail_text_splits : (xs ys : List Arg) (r s : List ℕ) → All (IsListedArg table) xs → All (IsListedArg table) ys → All IsTellingArg xs → All IsTellingArg ys →
-      tail_text table xs ++ (41 ∷ r) ≡ tail_text table ys ++ (41 ∷ s) → (xs ≡ ys) × (r ≡ s)
+      tail_text table xs ++ (closing ∷ r) ≡ tail_text table ys ++ (closing ∷ s) → (xs ≡ ys) × (r ≡ s)
   tail_text_splits [] [] r s c d g h same = (refl, ap behind_first same)
-  tail_text_splits [] (y ∷ ys) r s c d g h same = absurd (comma_no_bracket (arg_text table y ++ tail_text table ys ++ (41 ∷ s)) r (sym same))
-  tail_text_splits (x ∷ xs) [] r s c d g h same = absurd (comma_no_bracket ((arg_text table x ++ tail_text table xs) ++ (41 ∷ r)) s same)
+  tail_text_splits [] (y ∷ ys) r s c d g h same = absurd (comma_no_bracket (arg_text table y ++ tail_text table ys ++ (closing ∷ s)) r (sym same))
+  tail_text_splits (x ∷ xs) [] r s c d g h same = absurd (comma_no_bracket ((arg_text table x ++ tail_text table xs) ++ (closing ∷ r)) s same)
   tail_text_splits (x ∷ xs) (y ∷ ys) r s c d g h same =
-      let behind : (arg_text table x ++ tail_text table xs) ++ (41 ∷ r) ≡ (arg_text table y ++ tail_text table ys) ++ (41 ∷ s) = ap behind_first same in
-      let one = arg_text_splits x y (tail_text table xs ++ (41 ∷ r)) (tail_text table ys ++ (41 ∷ s))
+      let behind : (arg_text table x ++ tail_text table xs) ++ (closing ∷ r) ≡ (arg_text table y ++ tail_text table ys) ++ (closing ∷ s) = ap behind_first same in
+      let one = arg_text_splits x y (tail_text table xs ++ (closing ∷ r)) (tail_text table ys ++ (closing ∷ s))
       (all_first (IsListedArg table) x xs c) (all_first (IsListedArg table) y ys d) (all_first IsTellingArg x xs g) (all_first IsTellingArg y ys h) (tail_ends xs r) (tail_ends ys s)
-      (sym (append_assoc (arg_text table x) (tail_text table xs) (41 ∷ r)) ∙ behind ∙ append_assoc (arg_text table y) (tail_text table ys) (41 ∷ s)) in
+      (sym (append_assoc (arg_text table x) (tail_text table xs) (closing ∷ r)) ∙ behind ∙ append_assoc (arg_text table y) (tail_text table ys) (closing ∷ s)) in
       let rest = tail_text_splits xs ys r s (all_rest (IsListedArg table) x xs c) (all_rest (IsListedArg table) y ys d) (all_rest IsTellingArg x xs g) (all_rest IsTellingArg y ys h) one.1 in
       (λ i. one.0 i ∷ rest.0 i, rest.1)
 
   -- the text of no argument, and that of an argument with a name
-  layer_no_end : (k : Arg-F Arg Node) (r s : List ℕ) → IsListedArgLayer table k → IsTellingLayer k → Ends s → 41 ∷ r ≢ arg_layer_text table k ++ s
-  layer_no_end (layer.Atom w) r s d h j same = h.1 (sym (name_text_splits [] w (41 ∷ r) s (refl, refl) (ends_stops s j) same).0)
-  layer_no_end (layer.Node b) r s d h j same = atom_no_node_layer [] (place_in table b) (out-Node b) (41 ∷ r) s d (r, inr refl) same
+  layer_no_end : (k : Arg-F Arg Node) (r s : List ℕ) → IsListedArgLayer table k → IsTellingLayer k → Ends s → closing ∷ r ≢ arg_layer_text table k ++ s
+  layer_no_end (layer.Atom w) r s d h j same = h.1 (sym (name_text_splits [] w (closing ∷ r) s (refl, refl) (ends_stops s j) same).0)
+  layer_no_end (layer.Node b) r s d h j same = atom_no_node_layer [] (place_in table b) (out-Node b) (closing ∷ r) s d (r, inr refl) same
 
-  args_regroup : (x : Arg) (xs : List Arg) (r : List ℕ) → args_text table (x ∷ xs) ++ (41 ∷ r) ≡ arg_text table x ++ (tail_text table xs ++ (41 ∷ r))
-  args_regroup x xs r = ap (λ t. t ++ (41 ∷ r)) (args_text-cons table x xs) ∙ append_assoc (arg_text table x) (tail_text table xs) (41 ∷ r)
+  args_regroup : (x : Arg) (xs : List Arg) (r : List ℕ) → args_text table (x ∷ xs) ++ (closing ∷ r) ≡ arg_text table x ++ (tail_text table xs ++ (closing ∷ r))
+  args_regroup x xs r = ap (λ t. t ++ (closing ∷ r)) (args_text-cons table x xs) ∙ append_assoc (arg_text table x) (tail_text table xs) (closing ∷ r)
 
   args_text_splits : (xs ys : List Arg) (r s : List ℕ) → All (IsListedArg table) xs → All (IsListedArg table) ys → All IsTellingArg xs → All IsTellingArg ys →
-      args_text table xs ++ (41 ∷ r) ≡ args_text table ys ++ (41 ∷ s) → (xs ≡ ys) × (r ≡ s)
+      args_text table xs ++ (closing ∷ r) ≡ args_text table ys ++ (closing ∷ s) → (xs ≡ ys) × (r ≡ s)
   args_text_splits [] [] r s c d g h same = (refl, ap behind_first same)
   args_text_splits [] (y ∷ ys) r s c d g h same =
-      absurd (layer_no_end (out-Arg y) r (tail_text table ys ++ (41 ∷ s)) (all_first (IsListedArg table) y ys d) (all_first IsTellingArg y ys h) (tail_ends ys s)
+      absurd (layer_no_end (out-Arg y) r (tail_text table ys ++ (closing ∷ s)) (all_first (IsListedArg table) y ys d) (all_first IsTellingArg y ys h) (tail_ends ys s)
       (same ∙ args_regroup y ys s))
   args_text_splits (x ∷ xs) [] r s c d g h same =
-      absurd (layer_no_end (out-Arg x) s (tail_text table xs ++ (41 ∷ r)) (all_first (IsListedArg table) x xs c) (all_first IsTellingArg x xs g) (tail_ends xs r)
+      absurd (layer_no_end (out-Arg x) s (tail_text table xs ++ (closing ∷ r)) (all_first (IsListedArg table) x xs c) (all_first IsTellingArg x xs g) (tail_ends xs r)
       (sym same ∙ args_regroup x xs r))
   args_text_splits (x ∷ xs) (y ∷ ys) r s c d g h same =
-      let one = arg_text_splits x y (tail_text table xs ++ (41 ∷ r)) (tail_text table ys ++ (41 ∷ s))
+      let one = arg_text_splits x y (tail_text table xs ++ (closing ∷ r)) (tail_text table ys ++ (closing ∷ s))
       (all_first (IsListedArg table) x xs c) (all_first (IsListedArg table) y ys d) (all_first IsTellingArg x xs g) (all_first IsTellingArg y ys h) (tail_ends xs r) (tail_ends ys s)
       (sym (args_regroup x xs r) ∙ same ∙ args_regroup y ys s) in
       let rest = tail_text_splits xs ys r s (all_rest (IsListedArg table) x xs c) (all_rest (IsListedArg table) y ys d) (all_rest IsTellingArg x xs g) (all_rest IsTellingArg y ys h) one.1 in
       (λ i. one.0 i ∷ rest.0 i, rest.1)
 
-  fact_regroup : (f : Fact) (r : List ℕ) → fact_text table f ++ r ≡ name_text f.rel ++ (40 ∷ (args_text table f.args ++ (41 ∷ r)))
+  fact_regroup : (f : Fact) (r : List ℕ) → fact_text table f ++ r ≡ name_text f.rel ++ (opening ∷ (args_text table f.args ++ (closing ∷ r)))
   fact_regroup f r =
-      append_assoc (name_text f.rel ++ 40 ∷ args_text table f.args) (41 ∷ []) r ∙ append_assoc (name_text f.rel) (40 ∷ args_text table f.args) (41 ∷ r)
+      append_assoc (name_text f.rel ++ opening ∷ args_text table f.args) (closing ∷ []) r ∙ append_assoc (name_text f.rel) (opening ∷ args_text table f.args) (closing ∷ r)
 
   -- a fact's text gives back the fact and what follows
   pub fact_text_splits : (f g : Fact) (r s : List ℕ) → IsListedFact table f → IsListedFact table g → IsPlacedFact f → IsPlacedFact g → IsNamed f → IsNamed g →
       fact_text table f ++ r ≡ fact_text table g ++ s → (f ≡ g) × (r ≡ s)
   fact_text_splits f g r s c d p q v w same =
-      let rel = name_text_splits f.rel g.rel (40 ∷ (args_text table f.args ++ (41 ∷ r))) (40 ∷ (args_text table g.args ++ (41 ∷ s))) (refl, refl) (refl, refl)
+      let rel = name_text_splits f.rel g.rel (opening ∷ (args_text table f.args ++ (closing ∷ r))) (opening ∷ (args_text table g.args ++ (closing ∷ s))) (refl, refl) (refl, refl)
       (sym (fact_regroup f r) ∙ same ∙ fact_regroup g s) in
       let args = args_text_splits f.args g.args r s c d (λ k x l. (p k x l, v k x l)) (λ k x l. (q k x l, w k x l)) (ap behind_first rel.1) in
       (λ i. record { rel = rel.0 i; args = args.0 i }, args.1)

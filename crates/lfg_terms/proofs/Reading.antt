@@ -6,11 +6,11 @@ use Rattle.std.proofs.lemmas.Fmt.{decimal_injective, decimal_is_IsNumeral}
 use Rattle.std.specs.Str.Parse.{AllDigits}
 use Rattle.std.specs.Char.{digit_value}
 use Rattle.lfg_terms.specs.declared.node.Edge.{Edge}
-use Rattle.lfg_terms.specs.Texts.{is_plain, joins, is_bare, first, text_after, name_text, edge_text, IsPlaced}
+use Rattle.lfg_terms.specs.Texts.{hyphen, colon, backquote, is_plain, joins, is_bare, first, text_after, name_text, edge_text, IsPlaced}
 
 -- a byte that may stand in a name's text by itself
 abbrev pub is_inside : ℕ → Bool
-is_inside b = is_plain b || (b == 45)
+is_inside b = is_plain b || (b == hyphen)
 
 abbrev onto : ℕ → List ℕ × List ℕ → List ℕ × List ℕ
 onto b r = (b ∷ r.0, r.1)
@@ -19,28 +19,28 @@ onto b r = (b ∷ r.0, r.1)
 abbrev pub read_name : Bool → List ℕ → List ℕ × List ℕ
 read_name taken [] = ([], [])
 read_name true (b ∷ bs) = onto b (read_name false bs)
-read_name false (b ∷ bs) = if b == 96 then read_name true bs else (if is_inside b then onto b (read_name false bs) else ([], b ∷ bs))
+read_name false (b ∷ bs) = if b == backquote then read_name true bs else (if is_inside b then onto b (read_name false bs) else ([], b ∷ bs))
 
 -- the text ends, or goes on with a byte that no name has by itself
 abbrev pub Stops : List ℕ → Type 0
 Stops [] = Unit {0}
-Stops (b ∷ bs) = (is_inside b ≡ false) × ((b == 96) ≡ false)
+Stops (b ∷ bs) = (is_inside b ≡ false) × ((b == backquote) ≡ false)
 
 bare_inside : (before : Option ℕ) (b : ℕ) (after : Option ℕ) → is_bare before b after ≡ true → is_inside b ≡ true
-bare_inside before b after h = go (is_plain b) (b == 45) (joins before after) h
+bare_inside before b after h = go (is_plain b) (b == hyphen) (joins before after) h
   where
     go : (p q r : Bool) → p || (q && r) ≡ true → p || q ≡ true
     go true q r h = refl
     go false true r h = refl
     go false false r h = h
 
-inside_bare : (b : ℕ) → is_inside b ≡ true → (b == 96) ≡ false
-inside_bare b h = go (b == 96) refl
+inside_bare : (b : ℕ) → is_inside b ≡ true → (b == backquote) ≡ false
+inside_bare b h = go (b == backquote) refl
   where
-    go : (x : Bool) → (b == 96) ≡ x → x ≡ false
+    go : (x : Bool) → (b == backquote) ≡ x → x ≡ false
     go false e = refl
     go true e =
-        let q : b ≡ 96 = grind (arith, nat_tests) in
+        let q : b ≡ backquote = grind (arith, nat_tests) in
         let r : false ≡ true = sym (ap is_inside q) ∙ h in
         sym r
 
@@ -60,7 +60,7 @@ read_text before [] rest s = read_stop rest s
 read_text before (b ∷ bs) rest s = go (is_bare before b (first bs)) refl (read_text (Some b) bs rest s)
   where
     go : (x : Bool) → is_bare before b (first bs) ≡ x → read_name false (text_after (Some b) bs ++ rest) ≡ (bs, rest) →
-        read_name false ((cond x (b ∷ []) (96 ∷ b ∷ []) ++ text_after (Some b) bs) ++ rest) ≡ (b ∷ bs, rest)
+        read_name false ((cond x (b ∷ []) (backquote ∷ b ∷ []) ++ text_after (Some b) bs) ++ rest) ≡ (b ∷ bs, rest)
     go true e next = read_bare b (text_after (Some b) bs ++ rest) (bare_inside before b (first bs) e) ∙ ap (onto b) next
     go false e next = ap (onto b) next
 
@@ -104,17 +104,17 @@ decimal_splits m n r s a b h k e =
     let both = digits_split (decimal m) (decimal n) r s (decimal_is_IsNumeral m a).0.1 (decimal_is_IsNumeral n b).0.1 h k e in
     (decimal_injective m n a b both.0, both.1)
 
-edge_text-append : (e : Edge) (r : List ℕ) → edge_text e ++ r ≡ name_text e.cat ++ (58 ∷ (decimal e.from ++ (58 ∷ (decimal e.to ++ r))))
+edge_text-append : (e : Edge) (r : List ℕ) → edge_text e ++ r ≡ name_text e.cat ++ (colon ∷ (decimal e.from ++ (colon ∷ (decimal e.to ++ r))))
 edge_text-append e r =
-    append_assoc (name_text e.cat ++ 58 ∷ decimal e.from) (58 ∷ decimal e.to) r ∙ append_assoc (name_text e.cat) (58 ∷ decimal e.from) (58 ∷ decimal e.to ++ r)
+    append_assoc (name_text e.cat ++ colon ∷ decimal e.from) (colon ∷ decimal e.to) r ∙ append_assoc (name_text e.cat) (colon ∷ decimal e.from) (colon ∷ decimal e.to ++ r)
 
 -- an edge's text and a stop behind it give back the edge and what follows
 pub edge_text_splits : (e f : Edge) (r s : List ℕ) → IsPlaced e → IsPlaced f → StopsDigits r → StopsDigits s → edge_text e ++ r ≡ edge_text f ++ s → (e ≡ f) × (r ≡ s)
 edge_text_splits e f r s a b h k same =
-    let name = name_text_splits e.cat f.cat (58 ∷ (decimal e.from ++ (58 ∷ (decimal e.to ++ r)))) (58 ∷ (decimal f.from ++ (58 ∷ (decimal f.to ++ s)))) (refl, refl) (refl, refl)
+    let name = name_text_splits e.cat f.cat (colon ∷ (decimal e.from ++ (colon ∷ (decimal e.to ++ r)))) (colon ∷ (decimal f.from ++ (colon ∷ (decimal f.to ++ s)))) (refl, refl) (refl, refl)
     (sym (edge_text-append e r) ∙ same ∙ edge_text-append f s) in
-    let behind : decimal e.from ++ (58 ∷ (decimal e.to ++ r)) ≡ decimal f.from ++ (58 ∷ (decimal f.to ++ s)) = cc (name.1) in
-    let from = decimal_splits e.from f.from (58 ∷ (decimal e.to ++ r)) (58 ∷ (decimal f.to ++ s)) (omega (arith, a.0)) (omega (arith, b.0)) (omega arith) (omega arith) behind in
+    let behind : decimal e.from ++ (colon ∷ (decimal e.to ++ r)) ≡ decimal f.from ++ (colon ∷ (decimal f.to ++ s)) = cc (name.1) in
+    let from = decimal_splits e.from f.from (colon ∷ (decimal e.to ++ r)) (colon ∷ (decimal f.to ++ s)) (omega (arith, a.0)) (omega (arith, b.0)) (omega arith) (omega arith) behind in
     let last : decimal e.to ++ r ≡ decimal f.to ++ s = cc (from.1) in
     let to = decimal_splits e.to f.to r s (omega (arith, a.1)) (omega (arith, b.1)) h k last in
     (λ i. record { cat = name.0 i; from = from.0 i; to = to.0 i }, to.1)

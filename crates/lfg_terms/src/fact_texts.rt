@@ -1,7 +1,7 @@
 ghost use Rattle.std.specs.Prelude.{◌≡◌, ◌++◌, ◌∷◌, [], ◌<◌, ◌^◌, IfOk, IfSome, OnOk, OnErr, length};
 ghost use Rattle.std.specs.List.{All};
 ghost use Rattle.lfg_terms.specs.Texts.{name_text, edge_text, Keeps};
-ghost use Rattle.lfg_terms.specs.FactTexts.{path_text, place_in, node_text, arg_text, args_text, fact_text, IsListed, IsListedArg, IsListedFact, IsPlacedNode, IsPlacedArg, IsPlacedFact, IsNamed};
+ghost use Rattle.lfg_terms.specs.FactTexts.{comma, slash, path_text, place_in, node_text, arg_text, args_text, fact_text, IsListed, IsListedArg, IsListedFact, IsPlacedNode, IsPlacedArg, IsPlacedFact, IsNamed};
 ghost use Rattle.lfg_terms.specs.declared.node.Fact.{Fact};
 
 use crate::name::Name;
@@ -23,7 +23,7 @@ fn push_path(text: &mut Vec<u8>, path: &Path) -> Result<(), AllocError>
 
 /// Appends the attribute behind a slash.
 fn push_attribute(text: &mut Vec<u8>, name: &Name) -> Result<(), AllocError>
-    ensures ok { OnOk result (text.new.items ≡ text.old.items ++ 47 ∷ name_text name.now) }
+    ensures ok { OnOk result (text.new.items ≡ text.old.items ++ slash ∷ name_text name.now) }
     ensures err { OnErr result (Keeps text.old.items text.new.items) }
 {
     text.push(b'/')?;
@@ -98,7 +98,7 @@ fn push_other_arg(
     table: &[Node],
 ) -> Result<(), AllocError>
     requires { IsListedArg table.now arg.now }
-    ensures ok { OnOk result (text.new.items ≡ text.old.items ++ 44 ∷ arg_text table.now arg.now) }
+    ensures ok { OnOk result (text.new.items ≡ text.old.items ++ comma ∷ arg_text table.now arg.now) }
     ensures placed { OnOk result (IsPlacedArg arg.now) }
     ensures err { OnErr result (Keeps text.old.items text.new.items) }
 {

@@ -1,5 +1,5 @@
 ghost use Rattle.std.specs.Prelude.{◌≡◌, ◌++◌, ◌∷◌, [], List, ℕ, ◌<◌, ◌^◌, IfOk, OnOk, OnErr, length, take, decimal};
-ghost use Rattle.lfg_terms.specs.Texts.{name_text, edge_text, byte_text, is_bare, IsPlaced, Keeps};
+ghost use Rattle.lfg_terms.specs.Texts.{colon, name_text, edge_text, byte_text, is_bare, IsPlaced, Keeps};
 ghost use Rattle.lfg_terms.specs.declared.node.Edge.{Edge};
 
 use crate::name::Name;
@@ -85,7 +85,7 @@ pub fn push_number(alloc: Global, text: &mut Vec<u8>, number: u64) -> Result<(),
 
 /// Appends a place between tokens behind a colon.
 fn push_place(alloc: Global, text: &mut Vec<u8>, place: u32) -> Result<(), AllocError>
-    ensures ok { OnOk result (text.new.items ≡ text.old.items ++ 58 ∷ decimal place) }
+    ensures ok { OnOk result (text.new.items ≡ text.old.items ++ colon ∷ decimal place) }
     ensures err { OnErr result (Keeps text.old.items text.new.items) }
 {
     text.push(b':')?;
