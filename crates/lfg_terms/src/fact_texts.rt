@@ -1,4 +1,4 @@
-ghost use Rattle.std.specs.Prelude.{◌≡◌, ◌++◌, ◌∷◌, [], ◌<◌, ◌^◌, IfOk, IfSome, OnOk, OnErr, length};
+ghost use Rattle.std.specs.Prelude.{◌↔◌, IsTrue, ◌≡◌, ◌++◌, ◌∷◌, [], ◌<◌, ◌^◌, IfOk, IfSome, OnOk, OnErr, length};
 ghost use Rattle.std.specs.List.{All};
 ghost use Rattle.lfg_terms.specs.Texts.{name_text, edge_text, Keeps};
 ghost use Rattle.lfg_terms.specs.FactTexts.{comma, slash, path_text, place_in, node_text, arg_text, args_text, fact_text, IsListed, IsListedArg, IsListedFact, IsPlacedNode, IsPlacedArg, IsPlacedFact, IsNamed};
@@ -36,6 +36,27 @@ fn place_in(table: &[Node], node: &Node) -> Option<usize>
     ensures within { IfSome result (λ place. place < length table.now) }
 {
     table.iter().position(|known| node == known)
+}
+
+/// Whether the argument is no new node, or one that stands in the table.
+fn is_listed_arg(arg: &Arg, table: &[Node]) -> bool
+    ensures { IsTrue result ↔ IsListedArg table.now arg.now }
+{
+    match arg {
+        Arg::Atom(_) => true,
+        Arg::Node(node) => match node {
+            Node::At { .. } => true,
+            Node::New { .. } => place_in(table, node).is_some(),
+        },
+    }
+}
+
+/// Whether each new node that is an argument of the fact stands in the table, as `fact_text`
+/// requires. Takes no memory.
+pub fn is_listed(fact: &Fact, table: &[Node]) -> bool
+    ensures { IsTrue result ↔ IsListedFact table.now fact.now }
+{
+    fact.args.list().iter().all(|arg| is_listed_arg(arg, table))
 }
 
 /// Appends the node's text.
@@ -161,7 +182,8 @@ pub fn push_fact(
 /// The fact's text: the relation and the arguments between brackets, with commas between. A new
 /// node is written as its first place in the table, counted from 1.
 ///
-/// Each new node that is an argument of the fact has to stand in the table.
+/// Each new node that is an argument of the fact has to stand in the table. Under one table
+/// distinct facts have distinct texts, except that the empty atom is shown as no argument is.
 ///
 /// # Errors
 ///
