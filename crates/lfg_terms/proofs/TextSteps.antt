@@ -3,18 +3,18 @@ use Rattle.std.proofs.Common.{◌≡◌, ℕ, List, [], ◌∷◌, ◌++◌, ref
 use Rattle.std.proofs.Math.Seq.{take-append_seam, take-length}
 use Rattle.std.proofs.Math.ListN.{drop_of_length-le}
 use Rattle.lfg_terms.specs.Texts.{Keeps}
-use Rattle.lfg_terms.specs.FactTexts.{arg_text, args_text}
+use Rattle.lfg_terms.specs.FactTexts.{comma, arg_text, args_text}
 use Rattle.lfg_terms.specs.declared.node.Node.{Node}
 use Rattle.lfg_terms.specs.declared.node.Arg.{Arg}
 
 -- the arguments behind the first one
 abbrev pub tail_text : List Node → List Arg → List ℕ
 tail_text table [] = []
-tail_text table (x ∷ xs) = 44 ∷ arg_text table x ++ tail_text table xs
+tail_text table (x ∷ xs) = comma ∷ arg_text table x ++ tail_text table xs
 
 pub args_text-cons : (table : List Node) (x : Arg) (xs : List Arg) → args_text table (x ∷ xs) ≡ arg_text table x ++ tail_text table xs
 args_text-cons table x [] = sym (append-nil (arg_text table x))
-args_text-cons table x (y ∷ ys) = ap (λ t. arg_text table x ++ 44 ∷ t) (args_text-cons table y ys)
+args_text-cons table x (y ∷ ys) = ap (λ t. arg_text table x ++ comma ∷ t) (args_text-cons table y ys)
 
 -- after the last argument the text of all stands behind what stood there
 pub args_text-written : (table : List Node) (before first_written written : List ℕ) (args : List Arg) (x : Arg) (xs : List Arg) (k : ℕ) →

@@ -4,5 +4,4 @@ pub mod Name
 pub mod Order
 pub mod OrderLaws
 pub mod PathOrder
-pub mod Reading
 pub mod Texts

@@ -1,4 +1,4 @@
--- The laws of the orders.
+-- The laws of the orders: proofs, which stand here since the comparisons of the types cite that their orders are total.
 use Rattle.std.proofs.Common.{length, ◌≡◌, ℕ, zero, suc, ◌+◌, ◌-◌, ◌≤◌, ◌<◌, max, List, [], ◌∷◌, map, refl, sym, ◌∙◌, ap, subst, arith, rules}
 use Rattle.std.specs.declared.cmp.Ordering.{Ordering}
 use Rattle.std.specs.declared.cmp.Ordering.TheVariants.{Equal}
@@ -14,7 +14,9 @@ use Rattle.lfg_terms.specs.declared.node.Arg.{Arg, out-Arg}
 use Rattle.lfg_terms.specs.declared.node.Arg.TheOpen.{Node-F, Arg-F}
 use Rattle.lfg_terms.specs.declared.node.Arg.TheOpen as layer
 use Rattle.lfg_terms.specs.declared.node.Arg.TheFolds.{fold_out-Node, fold_out-Arg, map-Node, map-Arg}
-use Rattle.lfg_terms.specs.Order.{greatest, arg_depth_step, node_depth_step, node_depth, arg_depth, name_cmp, edge_cmp, at_cmp, node_kind, at_part, new_part, arg_kind, atom_part, node_part, new_cmp, node_layer_cmp, node_order, arg_order, node_cmp_to, node_cmp, arg_cmp, fact_cmp}
+use Rattle.lfg_terms.specs.Order.{greatest, arg_depth_step, node_depth_step, node_depth, arg_depth, name_cmp, edge_cmp, at_cmp, node_kind, at_parts, new_parts, arg_kind, atom_part, node_part, new_cmp, node_layer_cmp, node_order, arg_order, node_cmp_to, node_cmp, arg_cmp, fact_cmp}
+
+-- ---- each order is total, where the order of what is inside is
 
 pub edge_cmp_total : IsTotalOrder edge_cmp
 edge_cmp_total = search (comparing, rules)
@@ -22,6 +24,7 @@ edge_cmp_total = search (comparing, rules)
 at_cmp_total : IsTotalOrder at_cmp
 at_cmp_total = search (comparing, rules, edge_cmp_total) depth 9
 
+-- the order in which all are equal
 tied_total : {X : Type 0} → IsTotalOrder {K = X} (λ x y. Equal)
 tied_total = record { antisymm = λ x y. refl; trans = λ x y z h k. h; congr = λ x y z h. refl }
 
@@ -32,7 +35,7 @@ new_cmp_total R t =
 node_layer_total : (R : Arg → Arg → Ordering) → IsTotalOrder R → IsTotalOrder (node_layer_cmp R)
 node_layer_total R t =
     then_total (on_total node_kind nat_cmp_total)
-    (then_total (on_total at_part (options_total at_cmp_total)) (on_total new_part (options_total (new_cmp_total R t))))
+    (then_total (on_total at_parts (options_total at_cmp_total)) (on_total new_parts (options_total (new_cmp_total R t))))
 
 node_order_total : (R : Arg → Arg → Ordering) → IsTotalOrder R → IsTotalOrder (node_order R)
 node_order_total R t = then_total (on_total node_depth nat_cmp_total) (on_total out-Node (node_layer_total R t))
@@ -118,6 +121,8 @@ pub node_cmp_layer : (a b : Node) → node_cmp a b ≡ node_order arg_cmp a b
 node_cmp_layer a b =
     node_cmp_deeper (suc (node_depth a)) a b (omega arith)
     ∙ node_same (node_depth a) (arg_order (node_cmp_to (node_depth a))) arg_cmp (λ x y h. arg_same (node_depth a) (node_cmp_to (node_depth a)) node_cmp (λ c e d. sym (node_cmp_deeper (node_depth a) c e d)) x y (omega arith)) a b (omega arith)
+
+-- ---- the orders that the comparisons of the types cite
 
 pub node_cmp_total : IsTotalOrder node_cmp
 node_cmp_total = record {

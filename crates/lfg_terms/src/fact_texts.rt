@@ -1,7 +1,8 @@
-ghost use Rattle.std.specs.Prelude.{◌≡◌, ◌++◌, ◌∷◌, [], ◌<◌, ◌^◌, IfOk, IfSome, OnOk, OnErr, length};
+ghost use Rattle.std.specs.Prelude.{◌↔◌, IsTrue, ◌≡◌, ◌++◌, ◌∷◌, [], ◌<◌, ◌^◌, IfOk, IfSome, OnOk, OnErr, length};
 ghost use Rattle.std.specs.List.{All};
 ghost use Rattle.lfg_terms.specs.Texts.{name_text, edge_text, Keeps};
-ghost use Rattle.lfg_terms.specs.FactTexts.{path_text, place_in, node_text, arg_text, args_text, fact_text, IsListed, IsListedArg};
+ghost use Rattle.lfg_terms.specs.FactTexts.{comma, slash, path_text, place_in, node_text, arg_text, args_text, fact_text, IsListed, IsListedArg, IsListedFact, IsPlacedNode, IsPlacedArg, IsPlacedFact, IsNamed};
+ghost use Rattle.lfg_terms.specs.declared.node.Fact.{Fact};
 
 use crate::name::Name;
 use crate::node::{Arg, Fact, Node};
@@ -22,7 +23,7 @@ fn push_path(text: &mut Vec<u8>, path: &Path) -> Result<(), AllocError>
 
 /// Appends the attribute behind a slash.
 fn push_attribute(text: &mut Vec<u8>, name: &Name) -> Result<(), AllocError>
-    ensures ok { OnOk result (text.new.items ≡ text.old.items ++ 47 ∷ name_text name.now) }
+    ensures ok { OnOk result (text.new.items ≡ text.old.items ++ slash ∷ name_text name.now) }
     ensures err { OnErr result (Keeps text.old.items text.new.items) }
 {
     text.push(b'/')?;
@@ -37,6 +38,27 @@ fn place_in(table: &[Node], node: &Node) -> Option<usize>
     table.iter().position(|known| node == known)
 }
 
+/// Whether the argument is no new node, or one that stands in the table.
+fn is_listed_arg(arg: &Arg, table: &[Node]) -> bool
+    ensures { IsTrue result ↔ IsListedArg table.now arg.now }
+{
+    match arg {
+        Arg::Atom(_) => true,
+        Arg::Node(node) => match node {
+            Node::At { .. } => true,
+            Node::New { .. } => place_in(table, node).is_some(),
+        },
+    }
+}
+
+/// Whether each new node that is an argument of the fact stands in the table, as `fact_text`
+/// requires. Takes no memory.
+pub fn is_listed(fact: &Fact, table: &[Node]) -> bool
+    ensures { IsTrue result ↔ IsListedFact table.now fact.now }
+{
+    fact.args.list().iter().all(|arg| is_listed_arg(arg, table))
+}
+
 /// Appends the node's text.
 fn push_node(
     alloc: Global,
@@ -46,6 +68,7 @@ fn push_node(
 ) -> Result<(), AllocError>
     requires { IsListed table.now node.now }
     ensures ok { OnOk result (text.new.items ≡ text.old.items ++ node_text table.now node.now) }
+    ensures placed { OnOk result (IsPlacedNode node.now) }
     ensures err { OnErr result (Keeps text.old.items text.new.items) }
 {
     match node {
@@ -79,6 +102,7 @@ pub fn push_arg(
 ) -> Result<(), AllocError>
     requires { IsListedArg table.now arg.now }
     ensures ok { OnOk result (text.new.items ≡ text.old.items ++ arg_text table.now arg.now) }
+    ensures placed { OnOk result (IsPlacedArg arg.now) }
     ensures err { OnErr result (Keeps text.old.items text.new.items) }
 {
     match arg {
@@ -95,7 +119,8 @@ fn push_other_arg(
     table: &[Node],
 ) -> Result<(), AllocError>
     requires { IsListedArg table.now arg.now }
-    ensures ok { OnOk result (text.new.items ≡ text.old.items ++ 44 ∷ arg_text table.now arg.now) }
+    ensures ok { OnOk result (text.new.items ≡ text.old.items ++ comma ∷ arg_text table.now arg.now) }
+    ensures placed { OnOk result (IsPlacedArg arg.now) }
     ensures err { OnErr result (Keeps text.old.items text.new.items) }
 {
     text.push(b',')?;
@@ -117,6 +142,7 @@ pub fn push_args(
 ) -> Result<(), AllocError>
     requires { All (IsListedArg table.now) args.now }
     ensures ok { OnOk result (text.new.items ≡ text.old.items ++ args_text table.now args.now) }
+    ensures placed { OnOk result (All IsPlacedArg args.now) }
     ensures err { OnErr result (Keeps text.old.items text.new.items) }
 {
     if let Some((first, others)) = args.split_first() {
@@ -141,8 +167,9 @@ pub fn push_fact(
     fact: &Fact,
     table: &[Node],
 ) -> Result<(), AllocError>
-    requires { All (IsListedArg table.now) fact.now.args }
+    requires { IsListedFact table.now fact.now }
     ensures ok { OnOk result (text.new.items ≡ text.old.items ++ fact_text table.now fact.now) }
+    ensures placed { OnOk result (IsPlacedFact fact.now) }
     ensures err { OnErr result (Keeps text.old.items text.new.items) }
 {
     push_name(text, &fact.rel)?;
@@ -155,14 +182,18 @@ pub fn push_fact(
 /// The fact's text: the relation and the arguments between brackets, with commas between. A new
 /// node is written as its first place in the table, counted from 1.
 ///
-/// Each new node that is an argument of the fact has to stand in the table.
+/// Each new node that is an argument of the fact has to stand in the table. Under one table
+/// distinct facts have distinct texts, except that the empty atom is shown as no argument is.
 ///
 /// # Errors
 ///
 /// Only for want of memory.
 pub fn fact_text(alloc: Global, fact: &Fact, table: &[Node]) -> Result<Vec<u8>, AllocError>
-    requires { All (IsListedArg table.now) fact.now.args }
-    ensures { IfOk result (λ text. text.items ≡ fact_text table.now fact.now) }
+    requires { IsListedFact table.now fact.now }
+    ensures value { IfOk result (λ text. text.items ≡ fact_text table.now fact.now) }
+    ensures placed { OnOk result (IsPlacedFact fact.now) }
+    ensures distinct { IfOk result (λ text. (other : Fact) → IsListedFact table.now other → IsPlacedFact other →
+        IsNamed other → IsNamed fact.now → fact_text table.now other ≡ text.items → other ≡ fact.now) }
 {
     let mut text = Vec::new(alloc);
     push_fact(alloc, &mut text, fact, table)?;

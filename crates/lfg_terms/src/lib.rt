@@ -15,7 +15,7 @@ mod shared;
 mod texts;
 mod tree;
 
-pub use fact_texts::{fact_text, push_arg, push_args, push_fact};
+pub use fact_texts::{fact_text, is_listed, push_arg, push_args, push_fact};
 pub use grammar::{Arrow, Des, Form, Grammar, Graph, Item, Lex, Paths, Rule, Schema, Val};
 pub use list::List;
 pub use literal::{Check, Literal, Site, Target, Walk};

@@ -1,4 +1,4 @@
-ghost use Rattle.std.specs.Prelude.{◌≡◌, ◌↔◌, ◌==◌, List, [], ℕ, IsTrue, IfOk};
+ghost use Rattle.std.specs.Prelude.{◌≡◌, ◌↔◌, ◌==◌, List, [], ℕ, IsTrue, IfOk, Some};
 ghost use Rattle.std.proofs.Common.{rules};
 ghost use Rattle.std.specs.Cmp.Rules.{comparing};
 ghost use Rattle.std.specs.Cmp.{partial_order_from_own_ties};
@@ -68,6 +68,15 @@ impl fmt::Debug for Name {
     fn fmt<W: fmt::Write>(&self, f: &mut fmt::Formatter<W>) -> fmt::Result {
         let text = self.text();
         write!(f, "{text:?}")
+    }
+}
+
+impl fmt::Display for Name {
+    ghost output = { λ name. Some name };
+
+    /// The name's text, without backquotes.
+    fn fmt<W: fmt::Write>(&self, f: &mut fmt::Formatter<W>) -> fmt::Result {
+        f.write_str(self.text())
     }
 }
 

@@ -1,5 +1,5 @@
 ghost use Rattle.std.specs.Prelude.{◌≡◌, ◌++◌, ◌∷◌, [], List, ℕ, ◌<◌, ◌^◌, IfOk, OnOk, OnErr, length, take, decimal};
-ghost use Rattle.lfg_terms.specs.Texts.{name_text, edge_text, byte_text, is_bare, Keeps};
+ghost use Rattle.lfg_terms.specs.Texts.{colon, name_text, edge_text, byte_text, is_bare, IsPlaced, Keeps};
 ghost use Rattle.lfg_terms.specs.declared.node.Edge.{Edge};
 
 use crate::name::Name;
@@ -85,7 +85,7 @@ pub fn push_number(alloc: Global, text: &mut Vec<u8>, number: u64) -> Result<(),
 
 /// Appends a place between tokens behind a colon.
 fn push_place(alloc: Global, text: &mut Vec<u8>, place: u32) -> Result<(), AllocError>
-    ensures ok { OnOk result (text.new.items ≡ text.old.items ++ 58 ∷ decimal place) }
+    ensures ok { OnOk result (text.new.items ≡ text.old.items ++ colon ∷ decimal place) }
     ensures err { OnErr result (Keeps text.old.items text.new.items) }
 {
     text.push(b':')?;
@@ -99,6 +99,7 @@ fn push_place(alloc: Global, text: &mut Vec<u8>, place: u32) -> Result<(), Alloc
 /// Only for want of memory. What stood in `text` then still stands at its front.
 pub fn push_edge(alloc: Global, text: &mut Vec<u8>, edge: &Edge) -> Result<(), AllocError>
     ensures ok { OnOk result (text.new.items ≡ text.old.items ++ edge_text edge.now) }
+    ensures placed { OnOk result (IsPlaced edge.now) }
     ensures err { OnErr result (Keeps text.old.items text.new.items) }
 {
     push_name(text, &edge.cat)?;
@@ -113,7 +114,9 @@ pub fn push_edge(alloc: Global, text: &mut Vec<u8>, edge: &Edge) -> Result<(), A
 ///
 /// Only for want of memory.
 pub fn edge_text(alloc: Global, edge: &Edge) -> Result<Vec<u8>, AllocError>
-    ensures { IfOk result (λ text. text.items ≡ edge_text edge.now) }
+    ensures value { IfOk result (λ text. text.items ≡ edge_text edge.now) }
+    ensures placed { OnOk result (IsPlaced edge.now) }
+    ensures distinct { IfOk result (λ text. (other : Edge) → IsPlaced other → edge_text other ≡ text.items → other ≡ edge.now) }
 {
     let mut text = Vec::new(alloc);
     push_edge(alloc, &mut text, edge)?;

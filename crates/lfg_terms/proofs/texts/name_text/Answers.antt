@@ -1,6 +1,6 @@
 use Rattle.std.proofs.Common.{◌≡◌, ◌∙◌, rules}
 use Rattle.lfg_terms.specs.Texts.{name_text}
-use Rattle.lfg_terms.specs.Reading.{name_text_injective}
+use Rattle.lfg_terms.proofs.Reading.{name_text_injective}
 use Rattle.lfg_terms.proofs.texts.name_text.Goals as goal
 
 pub returns-clause-distinct : goal.returns-clause-distinct
