@@ -1,0 +1,5 @@
+pub mod Ascending
+pub mod ListLaws
+pub mod ReadingLaws
+pub mod RoundLaws
+pub mod Settling
