@@ -1,5 +1,9 @@
 pub mod Ascending
+pub mod DeriveLaws
+pub mod ExampleLaws
 pub mod ListLaws
+pub mod LiteralLaws
 pub mod ReadingLaws
 pub mod RoundLaws
 pub mod Settling
+pub mod SolutionLaws

@@ -1,5 +1,6 @@
 pub mod Derive
 pub mod Equal
+pub mod Examples
 pub mod Lists
 pub mod Literals
 pub mod Output
