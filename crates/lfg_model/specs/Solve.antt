@@ -49,6 +49,13 @@ module _ (ls : List Literal) where
   abbrev pub solution : Solution
   solution = record { same = SameNode; arc = HasArc; value = HasValue; member = HasMember }
 
+-- two solutions with the same relations; whatever is said of one is then true of the other
+pub record AreAlike (y z : Solution) : Type 0 where
+  pub same : (x u : Node) → y.same x u ↔ z.same x u
+  pub arc : (x : Node) (a : Name) (t : Node) → y.arc x a t ↔ z.arc x a t
+  pub value : (x : Node) (c : Constant) → y.value x c ↔ z.value x c
+  pub member : (x m : Node) → y.member x m ↔ z.member x m
+
 -- the attribute of semantic forms
 abbrev pub pred : Name
 pred = codes "PRED"
