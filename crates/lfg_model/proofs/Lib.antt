@@ -4,6 +4,8 @@ pub mod DeriveLaws
 pub mod ExampleLaws
 pub mod ListLaws
 pub mod LiteralLaws
+pub mod ManWalksLaws
+pub mod OneTree
 pub mod ReadingLaws
 pub mod RoundLaws
 pub mod Settling

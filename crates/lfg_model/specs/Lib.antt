@@ -3,6 +3,7 @@ pub mod Equal
 pub mod Examples
 pub mod Lists
 pub mod Literals
+pub mod ManWalks
 pub mod Output
 pub mod PairTexts
 pub mod Readings
@@ -10,3 +11,4 @@ pub mod Resolve
 pub mod Rounds
 pub mod Solve
 pub mod Terms
+pub mod Unambiguous
