@@ -1,3 +1,15 @@
 pub mod NameFronts
 pub mod OneReading
 pub mod PieceEnds
+pub mod Alike
+pub mod Ascending
+pub mod DeriveLaws
+pub mod ExampleLaws
+pub mod ListLaws
+pub mod LiteralLaws
+pub mod ManWalksLaws
+pub mod OneTree
+pub mod ReadingLaws
+pub mod RoundLaws
+pub mod Settling
+pub mod SolutionLaws

@@ -1,7 +1,9 @@
 pub mod Derive
 pub mod Equal
+pub mod Examples
 pub mod Lists
 pub mod Literals
+pub mod ManWalks
 pub mod Output
 pub mod PairTexts
 pub mod Readings
@@ -11,3 +13,4 @@ pub mod Solve
 pub mod Terms
 pub mod Pieces
 pub mod Tokens
+pub mod Unambiguous

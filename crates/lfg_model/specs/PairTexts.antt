@@ -1,5 +1,5 @@
 -- The texts of trees and pairs, and the order of pairs (this project's own).
-use Rattle.std.specs.Prelude.{ℕ, zero, suc, Bool, false, not, Option, Some, None, List, [], ◌∷◌, ◌++◌, length, find, codes, if◌then◌else◌}
+use Rattle.std.specs.Prelude.{ℕ, zero, suc, Bool, false, not, Option, Some, None, List, [], ◌∷◌, ◌++◌, length, map, filter, find, codes}
 use Rattle.std.specs.List.{flat_map, list_any}
 use Rattle.std.specs.declared.cmp.Ordering.{Ordering}
 use Rattle.std.specs.Ordering.{nat_cmp, on, then_cmp, eq_by_cmp}
@@ -29,18 +29,27 @@ branch_of (arg.Node (node.At daughter p) ∷ arg.Node (node.At mother q) ∷ [])
 branch_of (arg.Node (node.At mother p) ∷ arg.Atom text ∷ []) = to_word text mother
 branch_of _ = no_branch
 
--- what stands under an edge, a space before it; `deeper` gives the text of a daughter
-abbrev pub branch_text : (Edge → List ℕ) → Edge → Branch → List ℕ
-branch_text deeper e (to_daughter daughter mother) = if same_edge mother e then 32 ∷ deeper daughter else []
-branch_text deeper e (to_word text mother) = if same_edge mother e then 32 ∷ name_text text else []
-branch_text deeper e no_branch = []
+abbrev pub is_under : Edge → Branch → Bool
+is_under e (to_daughter daughter mother) = same_edge mother e
+is_under e (to_word text mother) = same_edge mother e
+is_under e no_branch = false
 
--- The text of the tree below an edge, to this depth: in brackets, the category and what stands
--- under the edge, in the order of the facts.
+-- what stands under an edge, in the order of the facts
+abbrev pub branches_under : List Fact → Edge → List Branch
+branches_under facts e = filter (is_under e) (map (λ f. branch_of f.args) facts)
+
+-- a space and the daughter or the word; `deeper` gives the text of a daughter
+abbrev pub branch_text : (Edge → List ℕ) → Branch → List ℕ
+branch_text deeper (to_daughter daughter mother) = 32 ∷ deeper daughter
+branch_text deeper (to_word text mother) = 32 ∷ name_text text
+branch_text deeper no_branch = []
+
+-- the text of the tree below an edge, to this depth: in brackets, the category and what stands
+-- under the edge
 abbrev pub text_below : ℕ → List Fact → Edge → List ℕ
 text_below zero facts e = []
 text_below (suc depth) facts e =
-    codes "[" ++ name_text e.cat ++ flat_map (λ f. branch_text (text_below depth facts) e (branch_of f.args)) facts ++ codes "]"
+    codes "[" ++ name_text e.cat ++ flat_map (branch_text (text_below depth facts)) (branches_under facts e) ++ codes "]"
 
 abbrev pub mothers : Branch → List Edge
 mothers (to_daughter daughter mother) = mother ∷ []

@@ -1,7 +1,7 @@
 -- The solution of a list of literals, and the conditions that it has to meet (Kaplan and Bresnan
 -- 1982). The conditions speak of four relations alone, so that they can be asked of whatever has
 -- these relations.
-use Rattle.std.specs.Prelude.{◌≢◌, ℕ, ◌⊎◌, true, false, List, [], ◌∷◌, codes}
+use Rattle.std.specs.Prelude.{◌≢◌, ◌↔◌, ℕ, ◌*◌, ◌⊎◌, true, false, List, [], ◌∷◌, length, codes}
 use Rattle.lfg_terms.specs.declared.node.Node.{Node}
 use Rattle.lfg_terms.specs.declared.grammar.Form.{Form}
 use Rattle.lfg_terms.specs.declared.literal.Site.{Site}
@@ -16,6 +16,7 @@ use Rattle.lfg_model.specs.declared.constant.Constant.TheVariants as constant
 use Rattle.lfg_model.specs.Lists.{In}
 use Rattle.lfg_model.specs.Terms.{Name, Path}
 use Rattle.lfg_model.specs.Equal.{Equal}
+use Rattle.lfg_model.specs.Rounds.{Round}
 use Rattle.lfg_model.specs.Literals.{nodes, arcs, given, values, members}
 
 -- A solution, as the relations between nodes that it has. A class is a node with all nodes that
@@ -47,6 +48,13 @@ module _ (ls : List Literal) where
 
   abbrev pub solution : Solution
   solution = record { same = SameNode; arc = HasArc; value = HasValue; member = HasMember }
+
+-- two solutions with the same relations; whatever is said of one is then true of the other
+pub record AreAlike (y z : Solution) : Type 0 where
+  pub same : (x u : Node) → y.same x u ↔ z.same x u
+  pub arc : (x : Node) (a : Name) (t : Node) → y.arc x a t ↔ z.arc x a t
+  pub value : (x : Node) (c : Constant) → y.value x c ↔ z.value x c
+  pub member : (x m : Node) → y.member x m ↔ z.member x m
 
 -- the attribute of semantic forms
 abbrev pub pred : Name
@@ -139,3 +147,9 @@ module _ (y : Solution) where
     pub satisfied : (c : Check) → In c constraints → Holds c
     pub complete : IsComplete
     pub coherent : IsCoherent governable
+
+-- Law: with m nodes in a list of literals, round m * m is the sameness of its solution.
+abbrev pub RoundsGiveSolution : Type 0
+RoundsGiveSolution =
+    (ls : List Literal) (x z : Node)
+    → Round (nodes ls) (given ls) (arcs ls) (length (nodes ls) * length (nodes ls)) x z ↔ (solution ls).same x z

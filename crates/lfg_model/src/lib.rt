@@ -3,6 +3,7 @@
 #![tactic(auto)]
 
 mod constant;
+pub mod laws;
 mod pair;
 mod status;
 mod token;
