@@ -1,3 +1,6 @@
+pub mod LongestTokens
 pub mod NameFronts
+pub mod NameRule
 pub mod OneReading
 pub mod PieceEnds
+pub mod SymbolRule

@@ -6,4 +6,4 @@ mod status;
 mod token;
 
 pub use status::{GrammarFault, Status};
-pub use token::{Token, TokenKind, one_reading};
+pub use token::{Token, TokenKind, longest_tokens, one_reading};
