@@ -35,7 +35,8 @@ fn joined_at(chars: &[char]) -> Option<(char, &[char])>
 
 /// Appends the rest of a name, behind its first character, and answers what is behind the name.
 pub(crate) fn name_on<'a>(text: &mut String, chars: &'a [char]) -> Result<&'a [char], AllocError>
-    ensures { IfOk result (λ rest. added (string_bytes text.old) (name_on chars.now) ≡ pair (string_bytes text.new) rest.now) }
+    ensures { IfOk result (λ rest. added (string_bytes text.old) (name_on chars.now)
+        ≡ pair (string_bytes text.new) rest.now) }
 {
     let mut rest = chars;
     loop {

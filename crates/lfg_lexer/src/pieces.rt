@@ -19,7 +19,8 @@ pub(crate) enum Piece {
 
 /// What is behind the next double quote.
 fn comment_at(chars: &[char]) -> Option<&[char]>
-    ensures { MatchOption result (comment_at chars.now ≡ None) (λ rest. comment_at chars.now ≡ Some rest.now) }
+    ensures { MatchOption result (comment_at chars.now ≡ None)
+        (λ rest. comment_at chars.now ≡ Some rest.now) }
 {
     let mut rest = chars;
     while let [c, behind @ ..] = rest {

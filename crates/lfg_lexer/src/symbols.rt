@@ -12,7 +12,8 @@ const SYMBOLS: [&str; 31] = [
 
 /// What is behind the text, where it stands in front.
 fn behind<'a>(text: &[u8], chars: &'a [char]) -> Option<&'a [char]>
-    ensures { MatchOption result (behind text.now chars.now ≡ None) (λ rest. behind text.now chars.now ≡ Some rest.now) }
+    ensures { MatchOption result (behind text.now chars.now ≡ None)
+        (λ rest. behind text.now chars.now ≡ Some rest.now) }
 {
     let mut text = text;
     let mut chars = chars;
@@ -41,7 +42,8 @@ fn goes_on(chars: &[char]) -> bool
 
 /// The first of the symbols that stands in front, and what is behind it.
 fn symbol_in<'a>(symbols: &[&'static str], chars: &'a [char]) -> Option<(&'static str, &'a [char])>
-    ensures { Reads (λ s rest. (s.now, rest.now)) result (symbol_in (map (λ s. s.now) symbols.now) chars.now) }
+    ensures { Reads (λ s rest. (s.now, rest.now)) result
+        (symbol_in (map (λ s. s.now) symbols.now) chars.now) }
 {
     for symbol in symbols {
         if let Some(rest) = behind(symbol.as_bytes(), chars) {
@@ -53,7 +55,8 @@ fn symbol_in<'a>(symbols: &[&'static str], chars: &'a [char]) -> Option<(&'stati
 
 /// What is behind `=c`, which is read only where nothing goes on behind the `c`.
 fn equal_c_at(chars: &[char]) -> Option<&[char]>
-    ensures { MatchOption result (equal_c_at chars.now ≡ None) (λ rest. equal_c_at chars.now ≡ Some rest.now) }
+    ensures { MatchOption result (equal_c_at chars.now ≡ None)
+        (λ rest. equal_c_at chars.now ≡ Some rest.now) }
 {
     match chars {
         ['=', 'c', rest @ ..] if !goes_on(rest) => Some(rest),

@@ -1,4 +1,6 @@
+pub mod LongestTokens
 pub mod NameFronts
+pub mod NameRule
 pub mod OneReading
 pub mod PieceEnds
 pub mod Alike
@@ -13,3 +15,4 @@ pub mod ReadingLaws
 pub mod RoundLaws
 pub mod Settling
 pub mod SolutionLaws
+pub mod SymbolRule

@@ -1,7 +1,8 @@
 -- The tokens of a text.
-use Rattle.std.specs.Prelude.{◌≡◌, ℕ, ◌+◌, ◌≤◌, ◌++◌, ◌==◌, true, false, Some, None, List, [], ◌∷◌, Contains, codes, length}
+use Rattle.std.specs.Prelude.{◌≡◌, ℕ, ◌+◌, ◌≤◌, ◌++◌, ◌==◌, true, false, Option, Some, None, List, [], ◌∷◌, Contains, codes, length}
 use Rattle.std.specs.Str.{encode_utf8_all}
 use Rattle.lfg_model.specs.declared.token.TokenKind.{TokenKind}
+use Rattle.lfg_model.specs.declared.token.TokenKind.TheVariants.{Name, Symbol}
 use Rattle.lfg_model.specs.declared.token.Token.{Token}
 use Rattle.lfg_model.specs.Pieces.{Piece, gap, token, piece_at, is_plain, goes_on, symbols}
 
@@ -32,20 +33,26 @@ pub data IsName : List ℕ → List ℕ → Type 0 where
   more : {w v t : List ℕ} {c : ℕ} → IsNameChar w c → IsName v t → IsName (w ++ v) (c ∷ t)
   joined : {w v t : List ℕ} {c : ℕ} → IsNameChar w c → IsName v t → IsName (w ++ 45 ∷ v) (c ∷ 45 ∷ t)
 
--- a symbol before these characters: one of the list, or `=c` where no name goes on behind it
-pub data IsSymbol : List ℕ → List ℕ → Type 0 where
-  listed : {s rest : List ℕ} → Contains symbols s → IsSymbol s rest
-  equal_c : {rest : List ℕ} → goes_on rest ≡ false → IsSymbol (codes "=c") rest
+-- a token of this kind as it is written, with its text, before the characters `rest`:
+-- a name, a symbol of the list, or `=c` where no name goes on behind it
+pub data IsToken : TokenKind → List ℕ → List ℕ → List ℕ → Type 0 where
+  name : {w t rest : List ℕ} → IsName w t → IsToken Name w (encode_utf8_all t) rest
+  symbol : {s rest : List ℕ} → Contains symbols s → IsToken Symbol s s rest
+  equal_c : {rest : List ℕ} → goes_on rest ≡ false → IsToken Symbol (codes "=c") (codes "=c") rest
 
--- in front of `cs` stands the longest name that can be read there, with these characters, and `ds` is behind it
-pub record LongestName (cs ds t : List ℕ) : Type 0 where
-  pub front : List ℕ
-  pub is : cs ≡ front ++ ds
-  pub name : IsName front t
-  pub longest : (other u rest : List ℕ) → IsName other u → cs ≡ other ++ rest → length other ≤ length front
+-- in front of `cs` stands this token, with `rest` behind it, and no longer token stands there
+pub record LongestToken (kind : TokenKind) (cs text rest : List ℕ) : Type 0 where
+  pub written : List ℕ
+  pub is : cs ≡ written ++ rest
+  pub token : IsToken kind written text rest
+  pub longest : (other : TokenKind) (v t more : List ℕ) → IsToken other v t more → cs ≡ v ++ more → length v ≤ length written
 
--- in front of `cs` stands the longest symbol that can be read there, and `ds` is behind it
-pub record LongestSymbol (cs ds s : List ℕ) : Type 0 where
-  pub is : cs ≡ s ++ ds
-  pub symbol : IsSymbol s ds
-  pub longest : (other rest : List ℕ) → IsSymbol other rest → cs ≡ other ++ rest → length other ≤ length s
+-- a piece that is a token
+abbrev pub IsTokenPiece : Piece → Type 0
+IsTokenPiece gap = ⊥
+IsTokenPiece (token kind text) = Unit {0}
+
+-- a token was read
+abbrev pub GivesToken : Option (Piece × List ℕ) → Type 0
+GivesToken None = ⊥
+GivesToken (Some x) = IsTokenPiece x.0

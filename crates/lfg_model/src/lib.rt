@@ -11,4 +11,4 @@ mod token;
 pub use constant::Constant;
 pub use pair::Pair;
 pub use status::{GrammarFault, Status};
-pub use token::{Token, TokenKind, one_reading};
+pub use token::{Token, TokenKind, longest_tokens, one_reading};

@@ -1,8 +1,8 @@
-ghost use Rattle.std.specs.Prelude.{◌≡◌, ◌≤◌, ◌++◌, Some, List, ℕ, length};
-ghost use Rattle.std.specs.Str.{encode_utf8_all};
+ghost use Rattle.std.specs.Prelude.{◌≡◌, ◌++◌, Some, List, ℕ};
 ghost use Rattle.lfg_model.specs.Pieces.{piece_at, token};
-ghost use Rattle.lfg_model.specs.Tokens.{Tokens, Stuck, IsName, IsSymbol};
+ghost use Rattle.lfg_model.specs.Tokens.{Tokens, Stuck, IsToken, LongestToken, GivesToken};
 ghost use Rattle.lfg_model.specs.declared.token.Token.{Token};
+ghost use Rattle.lfg_model.specs.declared.token.TokenKind.{TokenKind};
 
 use lfg_terms::Name;
 
@@ -29,7 +29,19 @@ pub struct Token {
 
 /// A text has one reading at most: one row of tokens, or one place at which nothing begins.
 pub fn one_reading()
-    ensures rows { (cs : List ℕ) (ts us : List Token) → Tokens 0 cs ts → Tokens 0 cs us → ts ≡ us }
-    ensures places { (cs : List ℕ) (stop other : ℕ) → Stuck 0 cs stop → Stuck 0 cs other → stop ≡ other }
-    ensures never_both { (cs : List ℕ) (ts : List Token) (stop : ℕ) → Tokens 0 cs ts → Stuck 0 cs stop → ⊥ }
+    ensures rows { (cs : List ℕ) (ts us : List Token)
+        → Tokens 0 cs ts → Tokens 0 cs us → ts ≡ us }
+    ensures places { (cs : List ℕ) (stop other : ℕ)
+        → Stuck 0 cs stop → Stuck 0 cs other → stop ≡ other }
+    ensures never_both { (cs : List ℕ) (ts : List Token) (stop : ℕ)
+        → Tokens 0 cs ts → Stuck 0 cs stop → ⊥ }
+{}
+
+/// Where a token begins, one is read, and a token that is read is the longest that begins there:
+/// a name is as long as possible, and of symbols the longest is taken.
+pub fn longest_tokens()
+    ensures begins { (kind : TokenKind) (written text rest : List ℕ)
+        → IsToken kind written text rest → GivesToken (piece_at (written ++ rest)) }
+    ensures longest { (kind : TokenKind) (cs text rest : List ℕ)
+        → piece_at cs ≡ Some (token kind text, rest) → LongestToken kind cs text rest }
 {}
