@@ -11,6 +11,7 @@ pub mod Resolve
 pub mod Rounds
 pub mod Solve
 pub mod Terms
+pub mod Thin
 pub mod Pieces
 pub mod Tokens
 pub mod Unambiguous

@@ -5,6 +5,7 @@ use crate::solution::Solution;
 use std::alloc::{AllocError, Global};
 
 /// Marks the place. Tells whether it was not marked before.
+#[tactic(auto, using(crate::proofs::MarkLaws::marking))]
 fn mark(marks: &mut [bool], place: usize) -> bool
     requires { place < length marks.old }
     ensures length { length marks.new ≡ length marks.old }
@@ -23,6 +24,20 @@ fn is_marked(marks: &[bool], place: usize) -> bool {
     match marks.get(place) {
         Some(marked) => *marked,
         None => false,
+    }
+}
+
+/// Marks the end of a step that begins at the class or at a marked one. Tells whether it was not
+/// marked before.
+fn step(marks: &mut [bool], class: usize, from: usize, to: usize) -> bool
+    ensures length { length marks.new ≡ length marks.old }
+    ensures less { unmarked marks.new ≤ unmarked marks.old }
+    ensures fewer { IsTrue result → unmarked marks.new < unmarked marks.old }
+{
+    if (from == class || is_marked(marks, from)) && to < marks.len() {
+        mark(marks, to)
+    } else {
+        false
     }
 }
 
@@ -56,20 +71,34 @@ impl Solution {
         ensures less { unmarked marks.new ≤ unmarked marks.old }
         ensures fewer { IsTrue result → unmarked marks.new < unmarked marks.old }
     {
+        let along = self.follow_arcs(class, marks);
+        self.enter_sets(class, marks) || along
+    }
+
+    /// The same for steps along arcs alone.
+    fn follow_arcs(&self, class: usize, marks: &mut [bool]) -> bool
+        ensures length { length marks.new ≡ length marks.old }
+        ensures less { unmarked marks.new ≤ unmarked marks.old }
+        ensures fewer { IsTrue result → unmarked marks.new < unmarked marks.old }
+    {
         let mut stepped = false;
         for arc in &self.arcs {
-            if (arc.from == class || is_marked(marks, arc.from))
-                && arc.to < marks.len()
-                && mark(marks, arc.to)
-            {
+            if step(marks, class, arc.from, arc.to) {
                 stepped = true;
             }
         }
+        stepped
+    }
+
+    /// The same for steps from a set to a member alone.
+    fn enter_sets(&self, class: usize, marks: &mut [bool]) -> bool
+        ensures length { length marks.new ≡ length marks.old }
+        ensures less { unmarked marks.new ≤ unmarked marks.old }
+        ensures fewer { IsTrue result → unmarked marks.new < unmarked marks.old }
+    {
+        let mut stepped = false;
         for member in &self.members {
-            if (member.set == class || is_marked(marks, member.set))
-                && member.item < marks.len()
-                && mark(marks, member.item)
-            {
+            if step(marks, class, member.set, member.item) {
                 stepped = true;
             }
         }

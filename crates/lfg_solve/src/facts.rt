@@ -1,5 +1,5 @@
 ghost use Rattle.std.specs.Prelude.{◌≡◌, [], IfOk, IfSome, OnOk};
-ghost use Rattle.lfg_solve.specs.Printable.{ArePrintable};
+ghost use Rattle.lfg_solve.specs.Printable.{ArePrintable, IsPrintable};
 ghost use Rattle.lfg_terms.specs.FactTexts.{IsListedArg};
 
 use crate::conditions::PRED;
@@ -115,17 +115,32 @@ impl Solution {
     {
         for i in 0..functions.len() {
             if let Some(named) = self.name_of(class)? {
-                let number = (i as u64 + 1).to_string(alloc)?;
-                let number = Arg::Atom(Name::new(alloc, number.as_str())?);
-                let function = Arg::Atom(functions[i].clone()?);
-                facts.push(Fact {
-                    rel: Name::new(alloc, relation)?,
-                    args: List::new(alloc, vec![in alloc; named, number, function]?)?,
-                })?;
+                facts.push(numbered(alloc, relation, named, i, &functions[i])?)?;
             }
         }
         Ok(())
     }
+}
+
+/// The fact that the relation holds between the argument, the number of a function and the
+/// function. The place of the function is counted from 0, its number from 1.
+fn numbered(
+    alloc: Global,
+    relation: &str,
+    named: Arg,
+    place: usize,
+    function: &Name,
+) -> Result<Fact, AllocError>
+    requires { IsListedArg [] named }
+    ensures printable { IfOk result IsPrintable }
+{
+    let number = (place as u64).saturating_add(1).to_string(alloc)?;
+    let number = Arg::Atom(Name::new(alloc, number.as_str())?);
+    let function = Arg::Atom(function.clone()?);
+    Ok(Fact {
+        rel: Name::new(alloc, relation)?,
+        args: List::new(alloc, vec![in alloc; named, number, function]?)?,
+    })
 }
 
 /// The facts in order, each once.
