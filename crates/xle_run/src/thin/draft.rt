@@ -190,7 +190,7 @@ fn daughter_at(items: &[Lexeme]) -> Result<Option<(Daughter, &[Lexeme])>, AllocE
             Lexeme::Down,
             rest @ ..,
         ] => match behind_annotation(rest) {
-            Some(behind) => Ok(Some((daughter(cat, None)?, behind))),
+            Some(behind) => Ok(Some((daughter_of(cat, None)?, behind))),
             None => Ok(None),
         },
         [
@@ -204,12 +204,12 @@ fn daughter_at(items: &[Lexeme]) -> Result<Option<(Daughter, &[Lexeme])>, AllocE
             Lexeme::Down,
             rest @ ..,
         ] => match behind_annotation(rest) {
-            Some(behind) => Ok(Some((daughter(cat, Some(function))?, behind))),
+            Some(behind) => Ok(Some((daughter_of(cat, Some(function))?, behind))),
             None => Ok(None),
         },
-        [Lexeme::Word(cat)] => Ok(Some((daughter(cat, None)?, &[]))),
+        [Lexeme::Word(cat)] => Ok(Some((daughter_of(cat, None)?, &[]))),
         [Lexeme::Word(cat), rest @ ..] => match rest {
-            [Lexeme::Word(_), ..] => Ok(Some((daughter(cat, None)?, rest))),
+            [Lexeme::Word(_), ..] => Ok(Some((daughter_of(cat, None)?, rest))),
             _ => Ok(None),
         },
         _ => Ok(None),
@@ -217,7 +217,7 @@ fn daughter_at(items: &[Lexeme]) -> Result<Option<(Daughter, &[Lexeme])>, AllocE
 }
 
 /// A daughter with copies of these names.
-fn daughter(cat: &Name, function: Option<&Name>) -> Result<Daughter, AllocError> {
+fn daughter_of(cat: &Name, function: Option<&Name>) -> Result<Daughter, AllocError> {
     Ok(Daughter {
         cat: cat.clone()?,
         function: match function {
