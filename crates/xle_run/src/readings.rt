@@ -1,7 +1,7 @@
-ghost use Rattle.std.specs.Prelude.{◌≡◌, ℕ, List, ◌∷◌, [], OnOk, IfOk, IfErr};
+ghost use Rattle.std.specs.Prelude.{◌≡◌, ◌≤◌, ℕ, List, OnOk, IfErr};
 ghost use Rattle.std.specs.List.{Contains};
 ghost use Rattle.lfg_io.specs.Counts.{Rose};
-ghost use Rattle.lfg_model.specs.declared.status.Status.{Status};
+
 ghost use Rattle.xle_run.specs.Causes.{IsRefused, IsUnwritten};
 
 use crate::section::section;
