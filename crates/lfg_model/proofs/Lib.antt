@@ -1,10 +1,13 @@
 pub mod Alike
 pub mod Ascending
+pub mod Classing
 pub mod DeriveLaws
 pub mod ExampleLaws
 pub mod ListLaws
 pub mod LiteralLaws
+pub mod ManWalksFacts
 pub mod ManWalksLaws
+pub mod ManWalksTree
 pub mod OneTree
 pub mod ReadingLaws
 pub mod RoundLaws

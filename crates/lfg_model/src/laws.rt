@@ -3,9 +3,11 @@
 
 ghost use Rattle.lfg_model.specs.Examples.{NegatedWherePlainFails, SetsWithoutPredAreExempt, TargetsOfEqualNodesAreEqual};
 ghost use Rattle.lfg_model.specs.Lists.{SetsOfFactsAreOne};
+ghost use Rattle.lfg_model.specs.ManWalks.{TheManWalks};
 ghost use Rattle.lfg_model.specs.Readings.{ReadingsAreOne};
 ghost use Rattle.lfg_model.specs.Rounds.{GrowingRoundsSettle, RoundsGiveEqual};
 ghost use Rattle.lfg_model.specs.Solve.{RoundsGiveSolution};
+ghost use Rattle.lfg_model.specs.Unambiguous.{OneDerivation};
 
 /// Two lists of facts in ascending order that have the same facts are equal.
 pub fn sets_of_facts_are_one()
@@ -55,5 +57,19 @@ pub fn sets_without_pred_are_exempt()
 /// A negated constraint holds exactly where the plain one does not.
 pub fn negated_where_plain_fails()
     ensures { NegatedWherePlainFails }
+{
+}
+
+/// Where a grammar leaves no choice for a sentence, a category derives one thing at most from a
+/// place.
+pub fn one_derivation()
+    ensures { OneDerivation }
+{
+}
+
+/// A small grammar gives `the man walks` one reading with this text, and none if its verb asks for
+/// a plural subject.
+pub fn the_man_walks()
+    ensures { TheManWalks }
 {
 }
