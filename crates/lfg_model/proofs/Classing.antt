@@ -1,17 +1,16 @@
 -- Numbers for the classes of a list of literals, which show what is not equal.
-use Rattle.std.proofs.Common.{◌≡◌, ℕ, ◌<◌, Bool, true, false, ◌&&◌, ◌||◌, not, List, [], ◌∷◌, refl, sym, ◌∙◌, ap, arith, eqb}
+use Rattle.std.proofs.Common.{◌≡◌, ℕ, ◌<◌, Bool, true, List, [], refl, sym, ◌∙◌, arith}
 use Rattle.std.specs.List.{list_all}
 use Rattle.std.proofs.lemmas.Bool.{and_parts}
 use Rattle.lfg_terms.specs.declared.node.Node.{Node}
 use Rattle.lfg_terms.specs.declared.literal.Literal.{Literal}
-use Rattle.lfg_model.specs.declared.constant.Constant.{Constant}
 use Rattle.lfg_model.specs.Lists.{In, here, later}
 use Rattle.lfg_model.specs.Terms.{Name}
 use Rattle.lfg_model.specs.Equal.{Equal, itself, stated, turned, joined, along}
-use Rattle.lfg_model.specs.Literals.{nodes, arcs, given, values, members}
+use Rattle.lfg_model.specs.Literals.{arcs, given, members}
 use Rattle.lfg_model.specs.Rounds.{AreBetween}
 use Rattle.lfg_model.proofs.ListLaws.{In-nil}
-use Rattle.lfg_model.specs.Solve.{SameNode, HasArc, arc, HasValue, value, HasMember, member, solution, Step, by_arc, to_member, Below, one_step, more_steps}
+use Rattle.lfg_model.specs.Solve.{SameNode, arc, member, solution, Step, by_arc, to_member, Below, one_step, more_steps}
 
 pub all_pass : {X : Type 0} (p : X → Bool) {x : X} {xs : List X} → In x xs → list_all p xs ≡ true → p x ≡ true
 all_pass p (here {xs}) t = (and_parts _ _ t).0

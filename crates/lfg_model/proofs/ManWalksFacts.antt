@@ -1,9 +1,8 @@
 -- The solution of a small sentence, and its facts.
-use Rattle.std.proofs.Common.{◌≡◌, ℕ, zero, suc, ◌<◌, ◌≤◌, Bool, true, false, ◌&&◌, ◌||◌, not, List, [], ◌∷◌, refl, sym, ◌∙◌, ap, subst, arith, eqb, length}
-use Rattle.std.specs.Prelude.{codes, if◌then◌else◌, nat_lt, ◌==◌}
+use Rattle.std.proofs.Common.{◌≡◌, ℕ, ◌<◌, ◌≤◌, Bool, true, false, ◌&&◌, ◌||◌, not, List, [], ◌∷◌, refl, sym, ◌∙◌, ap, arith, length}
+use Rattle.std.specs.Prelude.{codes, if◌then◌else◌, ◌==◌}
 use Rattle.std.specs.List.{list_all}
 use Rattle.std.specs.Cmp.Lexicographic.{pointwise, slice_cmp}
-use Rattle.std.specs.declared.cmp.Ordering.{Ordering}
 use Rattle.std.specs.declared.cmp.Ordering.TheVariants.{Less}
 use Rattle.std.specs.Ordering.{nat_cmp, ordering_then, is_lt}
 use Rattle.std.proofs.lemmas.Bool.{false≢true, eq-eqb, eqb-true, and_from}
@@ -23,11 +22,12 @@ use Rattle.lfg_model.specs.declared.constant.Constant.TheVariants as constant
 use Rattle.lfg_model.specs.Lists.{In, here, later}
 use Rattle.lfg_model.specs.Terms.{Name, Path}
 use Rattle.lfg_model.specs.Equal.{itself, stated, turned, joined, along}
-use Rattle.lfg_model.specs.Derive.{same_name, literals}
-use Rattle.lfg_model.specs.Literals.{nodes, arcs, given, values, members, checks}
-use Rattle.lfg_model.specs.Solve.{SameNode, HasArc, arc, HasValue, value, HasMember, member, solution, Clash, two_values, beside_arc, beside_member, HasForm, IsWellFormed}
+use Rattle.lfg_model.specs.Derive.{same_name}
+use Rattle.lfg_model.specs.Trees.{literals}
+use Rattle.lfg_model.specs.Literals.{nodes, arcs, values, checks}
+use Rattle.lfg_model.specs.Solve.{SameNode, arc, HasValue, value, member, solution, Clash, two_values, beside_arc, beside_member, HasForm, IsWellFormed}
 use Rattle.lfg_model.specs.Readings.{Called, by_atom, by_node, IsLeast, IsFact, of_arc, of_member, of_inner, of_outer, has_attribute}
-use Rattle.lfg_model.specs.ManWalks.{grammar, pair, S, NP, VP, D, N, V}
+use Rattle.lfg_model.specs.ManWalks.{grammar, pair, S, NP, D, N, V}
 use Rattle.lfg_model.proofs.ListLaws.{In-nil}
 use Rattle.lfg_model.proofs.LiteralLaws.{literals_between}
 use Rattle.lfg_model.proofs.SolutionLaws.{Equal-sym, solution_of_classes, Called-same, one_name}
@@ -90,7 +90,7 @@ module _ (number : Name) where
 pub plural_clashes : Clash (solution (all_literals (codes "pl")))
 plural_clashes =
     two_values (value (itself (later (later (later (later (later (later (later (later (later (later here))))))))))) (later here)) (value (N_V (codes "pl")) (later (later here)))
-      (λ e. let z : true ≡ false = ap (same_name (codes "sg")) (of_atom (codes "sg") (codes "pl") e) in false≢true (sym z))
+    (λ e. let z : true ≡ false = ap (same_name (codes "sg")) (of_atom (codes "sg") (codes "pl") e) in false≢true (sym z))
 
 -- ---- what is not equal
 

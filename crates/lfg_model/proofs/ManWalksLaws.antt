@@ -1,9 +1,8 @@
 -- The readings of a small sentence.
-use Rattle.std.proofs.Common.{◌≡◌, List, [], ◌∷◌, refl, sym, ◌∙◌, ap, subst}
+use Rattle.std.proofs.Common.{◌≡◌, List, [], ◌∷◌, refl, ◌∙◌, ap, subst}
 use Rattle.std.specs.Prelude.{codes}
-use Rattle.std.specs.declared.cmp.Ordering.{Ordering}
 use Rattle.std.specs.declared.cmp.Ordering.TheVariants.{Less, Equal}
-use Rattle.std.specs.Ordering.{nat_cmp, ordering_then}
+use Rattle.std.specs.Ordering.{ordering_then}
 use Rattle.std.specs.List.Sorted.{IsStrictlySortedBy}
 use Rattle.std.specs.Fmt.{digits}
 use denote.Hole.Carrier.{out}
@@ -19,17 +18,16 @@ use Rattle.lfg_terms.specs.declared.grammar.Grammar.{Grammar}
 use Rattle.lfg_terms.specs.declared.tree.TokenForms.{TokenForms}
 use Rattle.lfg_terms.specs.declared.node.Fact.{Fact}
 use Rattle.lfg_model.specs.declared.pair.Pair.{Pair}
-use Rattle.lfg_model.specs.Lists.{In, here, later, Lists}
+use Rattle.lfg_model.specs.Lists.{In, here, later}
 use Rattle.lfg_model.specs.Terms.{Name, Tree}
-use Rattle.lfg_model.specs.Derive.{under, word, tree_facts}
-use Rattle.lfg_model.specs.Solve.{Clash, solution}
-use Rattle.lfg_model.specs.PairTexts.{pair_text, pair_cmp}
+use Rattle.lfg_model.specs.Trees.{under, word, tree_facts}
+use Rattle.lfg_model.specs.PairTexts.{pair_text}
 use Rattle.lfg_model.specs.Readings.{IsReading, IsReadings, IsPairOf, Assigned}
 use Rattle.lfg_model.specs.ManWalks.{grammar, sentence, S, NP, VP, D, N, V, pair, text, TheManWalks}
 use Rattle.lfg_model.proofs.ListLaws.{In-nil, In-one}
 use Rattle.lfg_model.proofs.Ascending.{one_list, once_from_total}
 use Rattle.lfg_model.proofs.ManWalksTree.{tree, whole, only_tree}
-use Rattle.lfg_model.proofs.ManWalksFacts.{plural_clashes, all_literals, well_formed, fact_listed, listed_fact}
+use Rattle.lfg_model.proofs.ManWalksFacts.{plural_clashes, well_formed, fact_listed, listed_fact}
 
 text_of_pair : pair_text pair ≡ text
 unfolding out-Arg out-Node out digits
@@ -52,12 +50,22 @@ tree_ascends : IsStrictlySortedBy fact_cmp pair.tree
 unfolding IsStrictlySortedBy
 tree_ascends = (
   (under_before NP S D NP refl, (under_before NP S N NP refl, (under_before NP S V VP refl, (under_before NP S VP S refl, (refl, (refl, (refl, tt))))))),
-  ((under_before D NP N NP refl, (under_before D NP V VP refl, (under_before D NP VP S refl, (refl, (refl, (refl, tt)))))),
-  ((under_before N NP V VP refl, (under_before N NP VP S refl, (refl, (refl, (refl, tt))))),
-  ((under_before V VP VP S refl, (refl, (refl, (refl, tt)))),
-  ((refl, (refl, (refl, tt))),
-  ((word_before D N _ _ refl, (word_before D V _ _ refl, tt)),
-  ((word_before N V _ _ refl, tt), (tt, tt))))))),
+  (
+    (under_before D NP N NP refl, (under_before D NP V VP refl, (under_before D NP VP S refl, (refl, (refl, (refl, tt)))))),
+    (
+      (under_before N NP V VP refl, (under_before N NP VP S refl, (refl, (refl, (refl, tt))))),
+      (
+        (under_before V VP VP S refl, (refl, (refl, (refl, tt)))),
+        (
+          (refl, (refl, (refl, tt))),
+          (
+            (word_before D N _ _ refl, (word_before D V _ _ refl, tt)),
+            ((word_before N V _ _ refl, tt), (tt, tt)),
+          ),
+        ),
+      ),
+    ),
+  ),
 )
 
 facts_ascend : IsStrictlySortedBy fact_cmp pair.facts

@@ -1,28 +1,26 @@
 -- The derivation of a small sentence, which is its only one.
-use Rattle.std.proofs.Common.{◌≡◌, ℕ, zero, suc, ◌+◌, ◌≤◌, Bool, true, false, not, cond, List, [], ◌∷◌, ap, refl, sym, ◌∙◌, subst, arith, Option, Some, None, inl, inr, ◌⊎◌}
+use Rattle.std.proofs.Common.{◌≡◌, ℕ, zero, suc, Bool, true, false, cond, List, [], ◌∷◌, ap, refl, sym, ◌∙◌, arith, Some}
 use Rattle.std.specs.Prelude.{slice_get, find, codes, if◌then◌else◌}
 use Rattle.std.specs.List.{list_any}
-use Rattle.std.specs.Cmp.Lexicographic.{pointwise, same_text}
-use Rattle.std.proofs.lemmas.Bool.{cases_Bool, false≢true}
-use Rattle.lfg_terms.specs.declared.node.Edge.{Edge}
+use Rattle.std.specs.Cmp.Lexicographic.{same_text}
+use Rattle.std.proofs.lemmas.Bool.{false≢true}
 use Rattle.lfg_terms.specs.declared.grammar.Item.{Item}
-use Rattle.lfg_terms.specs.declared.grammar.Graph.{Graph}
 use Rattle.lfg_terms.specs.declared.grammar.Rule.{Rule}
 use Rattle.lfg_terms.specs.declared.grammar.Lex.{Lex}
 use Rattle.lfg_terms.specs.declared.tree.TokenForms.{TokenForms}
 use Rattle.lfg_model.specs.Lists.{In, here, later}
 use Rattle.lfg_model.specs.Terms.{Name, annotation_of, Tree, leaf, inner, no_part, daughter}
-use Rattle.lfg_model.specs.Resolve.{places}
-use Rattle.lfg_model.specs.Derive.{same_name, rule_of, item_at, CanFollow, Runs, Walks, Derives, Whole, edge}
+use Rattle.lfg_model.specs.Places.{places}
+use Rattle.lfg_model.specs.Derive.{same_name, rule_of, item_at, CanFollow, Runs, Walks, Whole}
 use Rattle.lfg_model.specs.Unambiguous.{IsUnambiguous}
-use Rattle.lfg_model.specs.ManWalks.{head, function, feature, item, one_item, two_items, grammar, token, sentence}
-use Rattle.lfg_model.proofs.ListLaws.{In-nil, In-one, In-cons_cases}
+use Rattle.lfg_model.specs.ManWalks.{head, function, item, one_item, two_items, grammar, token, sentence}
+use Rattle.lfg_model.proofs.ListLaws.{In-nil, In-one}
 use Rattle.lfg_model.proofs.OneTree.{same_some, one_derivation}
 
 abbrev pub tree : Tree
 tree =
     inner (codes "S") (daughter 1 [] (inner (codes "NP") (daughter 1 [] (leaf (codes "D") 0 []) (daughter 2 [] (leaf (codes "N") 1 []) no_part)))
-      (daughter 2 [] (inner (codes "VP") (daughter 1 [] (leaf (codes "V") 2 []) no_part)) no_part))
+    (daughter 2 [] (inner (codes "VP") (daughter 1 [] (leaf (codes "V") 2 []) no_part)) no_part))
 
 -- ---- lists
 

@@ -6,9 +6,11 @@ pub mod Literals
 pub mod ManWalks
 pub mod Output
 pub mod PairTexts
+pub mod Places
 pub mod Readings
 pub mod Resolve
 pub mod Rounds
 pub mod Solve
 pub mod Terms
+pub mod Trees
 pub mod Unambiguous

@@ -15,7 +15,8 @@ use Rattle.lfg_model.specs.declared.constant.Constant.TheVariants as constant
 use Rattle.lfg_model.specs.declared.pair.Pair.{Pair}
 use Rattle.lfg_model.specs.Lists.{In, Lists}
 use Rattle.lfg_model.specs.Terms.{Name, Tree}
-use Rattle.lfg_model.specs.Derive.{Whole, literals, tree_facts}
+use Rattle.lfg_model.specs.Derive.{Whole}
+use Rattle.lfg_model.specs.Trees.{literals, tree_facts}
 use Rattle.lfg_model.specs.Literals.{checks}
 use Rattle.lfg_model.specs.Solve.{Solution, solution, HasForm, IsWellFormed}
 use Rattle.lfg_model.specs.PairTexts.{pair_cmp}

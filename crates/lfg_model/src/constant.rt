@@ -8,9 +8,5 @@ use lfg_terms::{Form, Name, Site};
 #[derive(Debug, Drop)]
 pub enum Constant {
     Atom(Name),
-    Form {
-        form: Form,
-        site: Site,
-        index: u32,
-    },
+    Form { form: Form, site: Site, index: u32 },
 }
