@@ -8,6 +8,7 @@ pub mod LiteralLaws
 pub mod ManWalksFacts
 pub mod ManWalksLaws
 pub mod ManWalksTree
+pub mod Names
 pub mod OneTree
 pub mod ReadingLaws
 pub mod RoundLaws

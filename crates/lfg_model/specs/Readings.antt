@@ -9,6 +9,7 @@ use Rattle.lfg_terms.specs.declared.node.Fact.{Fact}
 use Rattle.lfg_terms.specs.declared.grammar.Form.{Form}
 use Rattle.lfg_terms.specs.declared.grammar.Grammar.{Grammar}
 use Rattle.lfg_terms.specs.declared.literal.Site.{Site}
+use Rattle.lfg_terms.specs.declared.literal.Literal.{Literal}
 use Rattle.lfg_terms.specs.declared.tree.TokenForms.{TokenForms}
 use Rattle.lfg_model.specs.declared.constant.Constant.{Constant}
 use Rattle.lfg_model.specs.declared.constant.Constant.TheVariants as constant
@@ -17,8 +18,8 @@ use Rattle.lfg_model.specs.Lists.{In, Lists}
 use Rattle.lfg_model.specs.Terms.{Name, Tree}
 use Rattle.lfg_model.specs.Derive.{Whole}
 use Rattle.lfg_model.specs.Trees.{literals, tree_facts}
-use Rattle.lfg_model.specs.Literals.{checks}
-use Rattle.lfg_model.specs.Solve.{Solution, solution, HasForm, IsWellFormed}
+use Rattle.lfg_model.specs.Literals.{nodes, checks}
+use Rattle.lfg_model.specs.Solve.{Solution, solution, Clash, HasForm, IsWellFormed}
 use Rattle.lfg_model.specs.PairTexts.{pair_cmp}
 
 -- The solution of the equations of a derivation of a sentence.
@@ -67,6 +68,12 @@ module _ (y : Solution) where
         → IsFact (argument c (suc k) g)
     of_outer : {x : Node} {c : Arg} {form : Form} (k : ℕ) {g : Name} → HasForm y x form → Called x c → slice_get form.outer k ≡ Some g
         → IsFact (nonargument c (suc k) g)
+
+-- Law: without a clash the class of each node has exactly one name.
+abbrev pub ClassesHaveOneName : Type 0
+ClassesHaveOneName =
+    (ls : List Literal) → ¬ Clash (solution ls) → (x : Node) → In x (nodes ls)
+    → (c : Arg) × Called (solution ls) x c × ((d : Arg) → Called (solution ls) x d → d ≡ c)
 
 -- The pair is that of a derivation: the facts of its tree and of its f-structure, each as a set.
 pub record IsPairOf (g : Grammar) (s : List TokenForms) (d : Tree) (p : Pair) : Type 0 where

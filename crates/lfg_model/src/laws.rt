@@ -4,7 +4,7 @@
 ghost use Rattle.lfg_model.specs.Examples.{NegatedWherePlainFails, SetsWithoutPredAreExempt, TargetsOfEqualNodesAreEqual};
 ghost use Rattle.lfg_model.specs.Lists.{SetsOfFactsAreOne};
 ghost use Rattle.lfg_model.specs.ManWalks.{TheManWalks};
-ghost use Rattle.lfg_model.specs.Readings.{ReadingsAreOne};
+ghost use Rattle.lfg_model.specs.Readings.{ClassesHaveOneName, ReadingsAreOne};
 ghost use Rattle.lfg_model.specs.Rounds.{GrowingRoundsSettle, RoundsGiveEqual};
 ghost use Rattle.lfg_model.specs.Solve.{RoundsGiveSolution};
 ghost use Rattle.lfg_model.specs.Unambiguous.{OneDerivation};
@@ -23,6 +23,11 @@ pub fn growing_rounds_settle()
 /// As many rounds as there are pairs of nodes give the equality of nodes.
 pub fn rounds_give_equal()
     ensures { RoundsGiveEqual }
+{}
+
+/// Without a clash the class of each node has exactly one name.
+pub fn classes_have_one_name()
+    ensures { ClassesHaveOneName }
 {}
 
 /// A sentence has one list of readings.
