@@ -9,6 +9,7 @@ pub mod ManWalksFacts
 pub mod ManWalksLaws
 pub mod ManWalksTree
 pub mod Names
+pub mod Numbered
 pub mod OneTree
 pub mod ReadingLaws
 pub mod RoundLaws

@@ -20,9 +20,8 @@ use Rattle.lfg_terms.specs.declared.literal.Literal.{Literal}
 use Rattle.lfg_model.specs.declared.constant.Constant.{Constant}
 use Rattle.lfg_model.specs.declared.constant.Constant.TheVariants as constant
 use Rattle.lfg_model.specs.Lists.{In, here, later}
-use Rattle.lfg_model.specs.Terms.{Name, Path}
+use Rattle.lfg_model.specs.Terms.{same_name, Name, Path}
 use Rattle.lfg_model.specs.Equal.{itself, stated, turned, joined, along}
-use Rattle.lfg_model.specs.Derive.{same_name}
 use Rattle.lfg_model.specs.Trees.{literals}
 use Rattle.lfg_model.specs.Literals.{nodes, arcs, values, checks}
 use Rattle.lfg_model.specs.Solve.{SameNode, arc, HasValue, value, member, solution, Clash, two_values, beside_arc, beside_member, HasForm, IsWellFormed}

@@ -9,9 +9,9 @@ use Rattle.lfg_terms.specs.declared.grammar.Rule.{Rule}
 use Rattle.lfg_terms.specs.declared.grammar.Lex.{Lex}
 use Rattle.lfg_terms.specs.declared.tree.TokenForms.{TokenForms}
 use Rattle.lfg_model.specs.Lists.{In, here, later}
-use Rattle.lfg_model.specs.Terms.{Name, annotation_of, Tree, leaf, inner, no_part, daughter}
+use Rattle.lfg_model.specs.Terms.{same_name, Name, annotation_of, Tree, leaf, inner, no_part, daughter}
 use Rattle.lfg_model.specs.Places.{places}
-use Rattle.lfg_model.specs.Derive.{same_name, rule_of, item_at, CanFollow, Runs, Walks, Whole}
+use Rattle.lfg_model.specs.Derive.{rule_of, item_at, CanFollow, Runs, Walks, Whole}
 use Rattle.lfg_model.specs.Unambiguous.{IsUnambiguous}
 use Rattle.lfg_model.specs.ManWalks.{head, function, item, one_item, two_items, grammar, token, sentence}
 use Rattle.lfg_model.proofs.ListLaws.{In-nil, In-one}

@@ -1,6 +1,5 @@
 -- Derivations of a sentence.
-use Rattle.std.specs.Prelude.{◌≡◌, ℕ, zero, suc, ◌+◌, ◌≤◌, Bool, true, ◌==◌, Option, Some, None, List, [], ◌∷◌, length, slice_get, find}
-use Rattle.std.specs.Cmp.Lexicographic.{pointwise}
+use Rattle.std.specs.Prelude.{◌≡◌, ℕ, zero, suc, ◌+◌, ◌≤◌, true, Option, Some, None, List, [], ◌∷◌, length, slice_get, find}
 use Rattle.lfg_terms.specs.declared.node.Edge.{Edge}
 use Rattle.lfg_terms.specs.declared.grammar.Item.{Item}
 use Rattle.lfg_terms.specs.declared.grammar.Graph.{Graph}
@@ -9,11 +8,8 @@ use Rattle.lfg_terms.specs.declared.grammar.Lex.{Lex}
 use Rattle.lfg_terms.specs.declared.grammar.Grammar.{Grammar}
 use Rattle.lfg_terms.specs.declared.tree.TokenForms.{TokenForms}
 use Rattle.lfg_model.specs.Lists.{In}
-use Rattle.lfg_model.specs.Terms.{Name, annotation_of, Tree, leaf, inner, Parts, no_part, empty, daughter}
-use Rattle.lfg_model.specs.Places.{places, Fits}
-
-abbrev pub same_name : Name → Name → Bool
-same_name = pointwise ◌==◌
+use Rattle.lfg_model.specs.Terms.{Name, same_name, annotation_of, Tree, leaf, inner, Parts, no_part, empty, daughter}
+use Rattle.lfg_model.specs.Places.{places, PicksFit}
 
 -- the rule of a category: the first that heads it
 abbrev pub rule_of : Grammar → Name → Option Rule
@@ -50,6 +46,7 @@ occurrences no_part = []
 occurrences (empty occ picks rest) = occ ∷ occurrences rest
 occurrences (daughter occ picks below rest) = occ ∷ occurrences rest
 
+-- the edge of a category from a place to a place
 abbrev pub edge : Name → ℕ → ℕ → Edge
 edge cat from to = record { cat = cat; from = from; to = to }
 
@@ -62,7 +59,7 @@ pub record IsWord (g : Grammar) (s : List TokenForms) (cat : Name) (entry : ℕ)
   pub token : TokenForms
   pub read : slice_get s at ≡ Some token
   pub offered : In lex.form token.forms
-  pub fits : Fits picks (places (annotation_of lex.schemata))
+  pub fits : PicksFit picks (places (annotation_of lex.schemata))
 
 -- The rule's item with this number has this category, or is `e` for None, and the picks fit its
 -- annotation.
@@ -70,7 +67,7 @@ pub record IsItem (rule : Rule) (occ : ℕ) (cat : Option Name) (picks : List �
   pub item : Item
   pub listed : item_at rule.items occ ≡ Some item
   pub category : item.cat ≡ cat
-  pub fits : Fits picks (places (annotation_of item.schemata))
+  pub fits : PicksFit picks (places (annotation_of item.schemata))
 
 -- The tree derives the edge (Kaplan and Bresnan 1982, with rules whose right sides are graphs of
 -- items): a word covers one token, and the parts of a rule cover the edge from its start to its

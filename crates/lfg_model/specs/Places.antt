@@ -12,11 +12,13 @@ path_places (Some []) = []
 path_places (Some (p ∷ [])) = []
 path_places (Some (p ∷ q ∷ ps)) = length (p ∷ q ∷ ps) ∷ []
 
+-- those of the right side of an equation
 abbrev pub val_places : Val Paths → List ℕ
 val_places (val.Des d) = path_places d.path
 val_places (val.Atom a) = []
 val_places (val.Form f) = []
 
+-- how many branches a disjunction has
 abbrev pub branch_count : Branches → ℕ
 branch_count no_branch = 0
 branch_count (or_branch b bs) = suc (branch_count bs)
@@ -43,12 +45,13 @@ abbrev mutual
   branch_places (or_branch b bs) = places b ++ branch_places bs
 
 -- the picks take one alternative, counted from 0, at each numbered place
-abbrev pub Fits : List ℕ → List ℕ → Type 0
-Fits [] [] = Unit {0}
-Fits [] (n ∷ ns) = ⊥
-Fits (k ∷ picks) [] = ⊥
-Fits (k ∷ picks) (n ∷ ns) = (k < n) × Fits picks ns
+abbrev pub PicksFit : List ℕ → List ℕ → Type 0
+PicksFit [] [] = Unit {0}
+PicksFit [] (n ∷ ns) = ⊥
+PicksFit (k ∷ picks) [] = ⊥
+PicksFit (k ∷ picks) (n ∷ ns) = (k < n) × PicksFit picks ns
 
+-- whether the right side of an equation is a semantic form, as a count
 abbrev pub val_forms : Val Paths → ℕ
 val_forms (val.Des d) = 0
 val_forms (val.Atom a) = 0

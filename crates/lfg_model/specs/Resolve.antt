@@ -25,16 +25,18 @@ pub record Instance : Type 0 where
   pub down : Edge
   pub site : Site
 
+-- the edge of an arrow
 abbrev pub edge_at : Instance → Arrow → Edge
 edge_at instance Up = instance.up
 edge_at instance Down = instance.down
 
--- the string that a path takes: the only one, or that of the pick
+-- the string with this number, from 0
 abbrev pub string_at : Paths → ℕ → Path
 string_at [] k = []
 string_at (p ∷ ps) zero = p
 string_at (p ∷ ps) (suc k) = string_at ps k
 
+-- the string that a designator takes; the bare arrow has the empty one
 abbrev pub string_taken : Option Paths → List ℕ → Path
 string_taken None picks = []
 string_taken (Some ps) [] = string_at ps 0
@@ -49,6 +51,7 @@ abbrev pub strings_of : Option Paths → Paths
 strings_of None = [] ∷ []
 strings_of (Some ps) = ps
 
+-- a designator in a constraint is a walk from the arrow's node along its strings
 abbrev pub walk_of : Instance → Des Paths → Walk
 walk_of instance d = record { start = node.At (edge_at instance d.arrow) []; paths = strings_of d.path }
 

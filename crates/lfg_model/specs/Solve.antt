@@ -61,7 +61,7 @@ abbrev pub pred : Name
 pred = codes "PRED"
 
 module _ (y : Solution) where
-  -- Uniqueness fails: a class has two constants, or a constant beside an arc or a member.
+  -- Uniqueness fails: a class has two different constants, or a constant beside an arc or a member.
   pub data Clash : Type 0 where
     two_values : {x : Node} {c d : Constant} → y.value x c → y.value x d → c ≢ d → Clash
     beside_arc : {x t : Node} {a : Name} {c : Constant} → y.value x c → y.arc x a t → Clash
@@ -110,9 +110,11 @@ module _ (y : Solution) where
   abbrev pub IsAcyclic : Type 0
   IsAcyclic = (x : Node) → ¬ Below x x
 
+  -- the class has a PRED arc
   abbrev pub HasPred : Node → Type 0
   HasPred x = (t : Node) × y.arc x pred t
 
+  -- the class has a member
   abbrev pub IsSet : Node → Type 0
   IsSet x = (m : Node) × y.member x m
 

@@ -27,6 +27,7 @@ abbrev mutual
   parts_width (empty occ picks rest) = parts_width rest
   parts_width (daughter occ picks below rest) = width below + parts_width rest
 
+-- the category of a tree
 abbrev pub cat_of : Tree → Name
 cat_of (leaf cat entry picks) = cat
 cat_of (inner cat parts) = cat
@@ -35,6 +36,7 @@ cat_of (inner cat parts) = cat
 abbrev pub edge_of : Tree → ℕ → Edge
 edge_of d from = edge (cat_of d) from (from + width d)
 
+-- the annotation of what was looked up, or none
 abbrev pub item_annotation : Option Item → Annotation
 item_annotation None = no_schema
 item_annotation (Some item) = annotation_of item.schemata
@@ -43,6 +45,7 @@ abbrev pub entry_annotation : Option Lex → Annotation
 entry_annotation None = no_schema
 entry_annotation (Some lex) = annotation_of lex.schemata
 
+-- the items of a rule that was looked up, or none
 abbrev pub items_of : Option Rule → List Item
 items_of None = []
 items_of (Some rule) = rule.items
@@ -80,6 +83,7 @@ under below mother = record { rel = codes "under"; args = edge_arg below ∷ edg
 abbrev pub word : Edge → Name → Fact
 word e text = record { rel = codes "word"; args = edge_arg e ∷ arg.Atom text ∷ [] }
 
+-- the fact of a word, if its token is there
 abbrev pub word_facts : Option TokenForms → Edge → List Fact
 word_facts None e = []
 word_facts (Some token) e = word e token.text ∷ []
