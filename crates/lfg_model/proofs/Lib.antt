@@ -1,8 +1,11 @@
 pub mod Alike
 pub mod Ascending
+pub mod BracketLaws
 pub mod Classing
 pub mod DeriveLaws
+pub mod Descent
 pub mod ExampleLaws
+pub mod Filters
 pub mod ListLaws
 pub mod LiteralLaws
 pub mod ManWalksFacts
@@ -15,3 +18,5 @@ pub mod ReadingLaws
 pub mod RoundLaws
 pub mod Settling
 pub mod SolutionLaws
+pub mod TreeOrder
+pub mod Within

@@ -1,31 +1,26 @@
 -- The readings of a small sentence.
-use Rattle.std.proofs.Common.{◌≡◌, List, [], ◌∷◌, refl, ◌∙◌, ap, subst}
+use Rattle.std.proofs.Common.{◌≡◌, List, [], ◌∷◌, refl, subst}
 use Rattle.std.specs.Prelude.{codes}
-use Rattle.std.specs.declared.cmp.Ordering.TheVariants.{Less, Equal}
-use Rattle.std.specs.Ordering.{ordering_then}
 use Rattle.std.specs.List.Sorted.{IsStrictlySortedBy}
 use Rattle.std.specs.Fmt.{digits}
 use denote.Hole.Carrier.{out}
-use Rattle.lfg_terms.specs.Order.{edge_cmp, node_cmp, arg_cmp, fact_cmp}
+use Rattle.lfg_terms.specs.Order.{fact_cmp}
 use Rattle.lfg_terms.specs.OrderLaws.{fact_cmp_total}
-use Rattle.lfg_terms.proofs.Layers.{node_cmp-At}
-use Rattle.lfg_terms.specs.declared.node.Edge.{Edge}
-use Rattle.lfg_terms.specs.declared.node.Node as node
-use Rattle.lfg_terms.specs.declared.node.Node.{Node, out-Node}
-use Rattle.lfg_terms.specs.declared.node.Arg as arg
-use Rattle.lfg_terms.specs.declared.node.Arg.{Arg, out-Arg}
+use Rattle.lfg_terms.specs.declared.node.Node.{out-Node}
+use Rattle.lfg_terms.specs.declared.node.Arg.{out-Arg}
 use Rattle.lfg_terms.specs.declared.grammar.Grammar.{Grammar}
 use Rattle.lfg_terms.specs.declared.tree.TokenForms.{TokenForms}
 use Rattle.lfg_terms.specs.declared.node.Fact.{Fact}
 use Rattle.lfg_model.specs.declared.pair.Pair.{Pair}
 use Rattle.lfg_model.specs.Lists.{In, here, later}
-use Rattle.lfg_model.specs.Terms.{Name, Tree}
-use Rattle.lfg_model.specs.Trees.{under, word, tree_facts}
+use Rattle.lfg_model.specs.Terms.{Tree}
+use Rattle.lfg_model.specs.Trees.{tree_facts}
 use Rattle.lfg_model.specs.PairTexts.{pair_text}
 use Rattle.lfg_model.specs.Readings.{IsReading, IsReadings, IsPairOf, Assigned}
 use Rattle.lfg_model.specs.ManWalks.{grammar, sentence, S, NP, VP, D, N, V, pair, text, TheManWalks}
 use Rattle.lfg_model.proofs.ListLaws.{In-nil, In-one}
 use Rattle.lfg_model.proofs.Ascending.{one_list, once_from_total}
+use Rattle.lfg_model.proofs.TreeOrder.{under_before, word_before}
 use Rattle.lfg_model.proofs.ManWalksTree.{tree, whole, only_tree}
 use Rattle.lfg_model.proofs.ManWalksFacts.{plural_clashes, well_formed, fact_listed, listed_fact}
 
@@ -34,17 +29,6 @@ unfolding out-Arg out-Node out digits
 text_of_pair = refl
 
 -- ---- the pair is that of the tree
-
-node_before : (d d' : Edge) → edge_cmp d d' ≡ Less → node_cmp (node.At d []) (node.At d' []) ≡ Less
-node_before d d' less = node_cmp-At d d' [] [] ∙ ap (λ o. ordering_then o Equal) less
-
-under_before : (d m d' m' : Edge) → edge_cmp d d' ≡ Less → fact_cmp (under d m) (under d' m') ≡ Less
-unfolding out-Arg out
-under_before d m d' m' less = ap (λ o. ordering_then o (ordering_then (node_cmp (node.At m []) (node.At m' [])) Equal)) (node_before d d' less)
-
-word_before : (d d' : Edge) (w w' : Name) → edge_cmp d d' ≡ Less → fact_cmp (word d w) (word d' w') ≡ Less
-unfolding out-Arg out
-word_before d d' w w' less = ap (λ o. ordering_then o (ordering_then (arg_cmp (arg.Atom w) (arg.Atom w')) Equal)) (node_before d d' less)
 
 tree_ascends : IsStrictlySortedBy fact_cmp pair.tree
 unfolding IsStrictlySortedBy

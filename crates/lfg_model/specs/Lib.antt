@@ -1,3 +1,4 @@
+pub mod Brackets
 pub mod Derive
 pub mod Equal
 pub mod Examples

@@ -1,6 +1,7 @@
 //! The laws of the definitions. Each is the contract of a function with nothing to do: that the
 //! function is proved says that the law holds.
 
+ghost use Rattle.lfg_model.specs.Brackets.{TreeTextIsBracketed};
 ghost use Rattle.lfg_model.specs.Examples.{NegatedWherePlainFails, SetsWithoutPredAreExempt, TargetsOfEqualNodesAreEqual};
 ghost use Rattle.lfg_model.specs.Lists.{SetsOfFactsAreOne};
 ghost use Rattle.lfg_model.specs.ManWalks.{TheManWalks};
@@ -61,6 +62,12 @@ pub fn negated_where_plain_fails()
 /// place.
 pub fn one_derivation()
     ensures { OneDerivation }
+{}
+
+/// The text of the facts of a derivation's tree is that of the tree, where no edge stands twice and
+/// each begins before its end.
+pub fn tree_text_is_bracketed()
+    ensures { TreeTextIsBracketed }
 {}
 
 /// A small grammar gives `the man walks` one reading with this text, and none if its verb asks for
