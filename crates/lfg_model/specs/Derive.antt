@@ -35,8 +35,8 @@ abbrev pub Runs : Graph → ℕ → List ℕ → Type 0
 Runs graph q [] = CanEnd graph q
 Runs graph q (p ∷ rest) = CanFollow graph q p × Runs graph p rest
 
--- A row of items is walked by the graph: it is not empty, its first may begin, each next one may
--- follow the one before, and its last may end.
+-- The graph walks a row of items: from one that may begin, over items that may follow each other, to
+-- one that may end. No row is empty.
 abbrev pub Walks : Graph → List ℕ → Type 0
 Walks graph w = Runs graph 0 w
 

@@ -52,15 +52,15 @@ module _ (y : Solution) where
     pub same : y.same x z
     pub least : (w : Node) → y.same x w → ¬ (node_cmp w z ≡ Less)
 
-  -- What a class is called: its atom, the name of its form, or else its least node (this project's
-  -- own).
+  -- What a class is called: one with an atom or a form goes by that name, any other by its least
+  -- node (this project's own).
   pub data Called (x : Node) : Arg → Type 0 where
     by_atom : {a : Name} → y.value x (constant.Atom a) → Called x (arg.Atom a)
     by_form : {form : Form} {site : Site} {index : ℕ} → y.value x (constant.Form form site index) → Called x (arg.Atom form.name)
     by_node : {z : Node} → ((c : Constant) → ¬ y.value x c) → IsLeast x z → Called x (arg.Node z)
 
-  -- The facts of an f-structure: one for each arc, for each member of a set, and for each function
-  -- that the form of a class names (this project's own).
+  -- The facts of an f-structure: its arcs, its sets' members, and the functions that its forms name
+  -- (this project's own).
   pub data IsFact : Fact → Type 0 where
     of_arc : {x t : Node} {a : Name} {c u : Arg} → y.arc x a t → Called x c → Called t u → IsFact (has_attribute a c u)
     of_member : {x m : Node} {c u : Arg} → y.member x m → Called x c → Called m u → IsFact (in_set u c)

@@ -51,8 +51,8 @@ items_of None = []
 items_of (Some rule) = rule.items
 
 -- The literals of a tree that begins at a place: those of each part's annotation and of each
--- word's. At a daughter `^` is the mother's edge and `!` the daughter's own (Kaplan and Bresnan
--- 1982). At an empty item both are the mother's, at a word both are its own.
+-- word's. A daughter's `^` is its mother's edge and its `!` its own edge (Kaplan and Bresnan 1982). In
+-- the annotation of an empty item either arrow is the mother's edge, in an entry the word's.
 abbrev mutual
   pub literals : Grammar → Tree → ℕ → List Literal
   literals g (leaf cat entry picks) from =
@@ -88,8 +88,8 @@ abbrev pub word_facts : Option TokenForms → Edge → List Fact
 word_facts None e = []
 word_facts (Some token) e = word e token.text ∷ []
 
--- The facts of a tree that begins at a place: `under` for each edge but the root, `word` for each
--- word (this project's own).
+-- The facts of a tree that begins at a place: `under` joins a daughter to its mother, `word` a word's
+-- edge to its text (this project's own).
 abbrev mutual
   pub tree_facts : List TokenForms → Tree → ℕ → List Fact
   tree_facts s (leaf cat entry picks) from = word_facts (slice_get s from) (edge cat from (from + 1))

@@ -53,7 +53,7 @@ pub fn sets_without_pred_are_exempt()
     ensures { SetsWithoutPredAreExempt }
 {}
 
-/// A negated constraint holds exactly where the plain one does not.
+/// A negated constraint is true just where the plain one is false.
 pub fn negated_where_plain_fails()
     ensures { NegatedWherePlainFails }
 {}
