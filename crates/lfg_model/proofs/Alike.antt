@@ -1,5 +1,5 @@
 -- Solutions with the same relations meet the same conditions and have the same facts.
-use Rattle.std.proofs.Common.{◌≡◌, List, [], ◌∷◌, Bool, true, false, inl, inr}
+use Rattle.std.proofs.Common.{List, [], ◌∷◌, true, false, inl, inr}
 use Rattle.lfg_terms.specs.declared.node.Node.{Node}
 use Rattle.lfg_terms.specs.declared.node.Arg.{Arg}
 use Rattle.lfg_terms.specs.declared.node.Fact.{Fact}
@@ -10,9 +10,8 @@ use Rattle.lfg_terms.specs.declared.literal.Target.TheVariants as target
 use Rattle.lfg_terms.specs.declared.literal.Check.{Check}
 use Rattle.lfg_terms.specs.declared.literal.Check.TheVariants as check
 use Rattle.lfg_model.specs.declared.constant.Constant.TheVariants as constant
-use Rattle.lfg_model.specs.Lists.{In}
 use Rattle.lfg_model.specs.Terms.{Name, Path}
-use Rattle.lfg_model.specs.Solve.{Solution, AreAlike, Clash, two_values, beside_arc, beside_member, LeadsTo, Reaches, Match, Agrees, LeadsSomewhere, Holds, Step, by_arc, to_member, Below, one_step, more_steps, HasPred, IsSet, HasForm, IsGoverned, IsComplete, IsCoherent, IsWellFormed}
+use Rattle.lfg_model.specs.Solve.{Solution, AreAlike, Clash, two_values, beside_arc, beside_member, LeadsTo, Reaches, Match, Agrees, LeadsSomewhere, Holds, Step, by_arc, to_member, Below, one_step, more_steps, HasPred, IsSet, HasForm, IsComplete, IsCoherent, IsWellFormed}
 use Rattle.lfg_model.specs.Readings.{IsLeast, Called, by_atom, by_form, by_node, IsFact, of_arc, of_member, of_inner, of_outer}
 
 pub alike_turned : {y z : Solution} → AreAlike y z → AreAlike z y
@@ -87,9 +86,9 @@ module _ (y z : Solution) (e : AreAlike y z) where
   coherent_alike : (governable : List Name) → IsCoherent y governable → IsCoherent z governable
   coherent_alike governable c = record {
     each = λ x t g i h. elim (c.each x t g i ((e.arc x g t).1 h)) [
-        inl f ↦ inl (f.0, form_alike y z e x f.0 f.1, f.2)
+      | inl f ↦ inl (f.0, form_alike y z e x f.0 f.1, f.2)
       | inr s ↦ inr (set_alike y z e x s.0, λ p. s.1 (pred_alike z y turned x p))
-      ];
+    ];
   }
 
   pub well_formed_alike : (governable : List Name) (cs : List Check) → IsWellFormed y governable cs → IsWellFormed z governable cs

@@ -1,11 +1,12 @@
 -- A derivation covers as many tokens as its edge.
-use Rattle.std.proofs.Common.{◌≡◌, ℕ, ◌+◌, List, refl, sym, ◌∙◌, ap, arith, subst, add-zero}
+use Rattle.std.proofs.Common.{◌≡◌, ℕ, ◌+◌, List, ap, arith}
 use Rattle.lfg_terms.specs.declared.node.Edge.{Edge}
 use Rattle.lfg_terms.specs.declared.grammar.Rule.{Rule}
 use Rattle.lfg_terms.specs.declared.grammar.Grammar.{Grammar}
 use Rattle.lfg_terms.specs.declared.tree.TokenForms.{TokenForms}
 use Rattle.lfg_model.specs.Terms.{Tree, leaf, inner, Parts, no_part, empty, daughter}
-use Rattle.lfg_model.specs.Derive.{Derives, Covers, width, parts_width, edge_of}
+use Rattle.lfg_model.specs.Derive.{Derives, Covers}
+use Rattle.lfg_model.specs.Trees.{width, parts_width, edge_of}
 
 mutual
   pub Derives-width : (g : Grammar) (s : List TokenForms) (d : Tree) (e : Edge) → Derives g s d e → e.to ≡ e.from + width d

@@ -1,7 +1,6 @@
 -- Small cases of the definitions.
-use Rattle.std.proofs.Common.{◌≡◌, ℕ, List, [], ◌∷◌, refl, sym, ◌∙◌, ap, subst, inl, inr}
+use Rattle.std.proofs.Common.{◌≡◌, ℕ, List, [], ◌∷◌, sym, ap, subst, inl, inr}
 use Rattle.lfg_terms.specs.declared.node.Edge.{Edge}
-use Rattle.lfg_terms.specs.declared.node.Node as node
 use Rattle.lfg_terms.specs.declared.node.Node.{Node}
 use Rattle.lfg_terms.specs.declared.grammar.Form.{Form}
 use Rattle.lfg_terms.specs.declared.literal.Site.{Site}
@@ -11,10 +10,10 @@ use Rattle.lfg_model.specs.declared.constant.Constant.{Constant}
 use Rattle.lfg_model.specs.declared.constant.Constant.TheVariants as constant
 use Rattle.lfg_model.specs.Lists.{In, here, later}
 use Rattle.lfg_model.specs.Terms.{Name}
-use Rattle.lfg_model.specs.Equal.{Equal, itself, stated, turned, joined, along}
+use Rattle.lfg_model.specs.Equal.{itself, stated, joined, along}
 use Rattle.std.specs.Prelude.{◌≢◌}
 use Rattle.lfg_model.specs.Literals.{values}
-use Rattle.lfg_model.specs.Solve.{SameNode, HasArc, arc, HasValue, value, HasMember, member, solution, pred, two_values, HasPred, IsSet, IsGoverned, IsCoherent}
+use Rattle.lfg_model.specs.Solve.{SameNode, HasArc, arc, HasValue, value, HasMember, member, solution, pred, two_values, IsGoverned, IsCoherent}
 use Rattle.lfg_model.specs.Examples.{root, attribute, two_equal_nodes, one_function, TargetsOfEqualNodesAreEqual, SetsWithoutPredAreExempt, NegatedWherePlainFails}
 use Rattle.lfg_model.proofs.ListLaws.{In-one, In-nil}
 
@@ -54,9 +53,9 @@ only_arc n m u t a g i = let e = In-one i in (ap (λ r. r.0) e, ap (λ r. r.1) e
 alone : (e : Edge) (g v : Name) → ¬ IsCoherent (solution (one_function e g v)) (g ∷ [])
 unfolding AreAtoms
 alone e g v coherent = elim (coherent.each (root e) (attribute e g) g here by) [
-    inl governed ↦ not_governed (one_function e g v) (λ n form site index. one_atom n (attribute e g) v form site index) (root e) g governed
+  | inl governed ↦ not_governed (one_function e g v) (λ n form site index. one_atom n (attribute e g) v form site index) (root e) g governed
   | inr set ↦ no_member set.0.0 set.0.1
-  ]
+]
   where
     by : HasArc (one_function e g v) (root e) g (attribute e g)
     by = arc (itself here) here (itself (later here))

@@ -1,6 +1,5 @@
 -- The given equations and arcs of a list of literals are between its nodes.
-use Rattle.std.proofs.Common.{◌≡◌, ℕ, List, [], ◌∷◌, ◌++◌, length, map, refl, sym, ◌∙◌, ap, subst, ◌*◌}
-use Rattle.std.specs.Prelude.{◌↔◌}
+use Rattle.std.proofs.Common.{◌≡◌, List, [], ◌∷◌, ◌++◌, ap, subst}
 use Rattle.std.specs.List.{flat_map}
 use Rattle.lfg_terms.specs.declared.node.Node as node
 use Rattle.lfg_terms.specs.declared.node.Node.{Node}
@@ -8,7 +7,7 @@ use Rattle.lfg_terms.specs.declared.literal.Literal.{Literal}
 use Rattle.lfg_terms.specs.declared.literal.Literal.TheVariants as literal
 use Rattle.lfg_model.specs.Lists.{In, here, later}
 use Rattle.lfg_model.specs.Terms.{Name, Path}
-use Rattle.lfg_model.specs.Rounds.{Round, AreBetween}
+use Rattle.lfg_model.specs.Rounds.{AreBetween}
 use Rattle.lfg_model.specs.Literals.{prefixes, steps, with_prefixes, arcs_to, named, starts, checks_of, given_of, nodes, arcs, given}
 use Rattle.lfg_model.specs.Solve.{RoundsGiveSolution}
 use Rattle.lfg_model.proofs.RoundLaws.{rounds_give_equal}
@@ -43,8 +42,7 @@ arc_ends (node.At e p) x a t h =
     let s = In_from_map (λ s. (node.At e s.0, s.1, node.At e (s.0 ++ s.1 ∷ []))) (steps p) h in
     let ends = step_ends p s.0.0 s.0.1 s.1 in
     let first : node.At e s.0.0 ≡ x = ap (λ r. r.0) s.2 in
-    let last : node.At e (s.0.0 ++ s.0.1 ∷ []) ≡ t = ap (λ r. r.2) s.2 in
-    (
+    let last : node.At e (s.0.0 ++ s.0.1 ∷ []) ≡ t = ap (λ r. r.2) s.2 in (
       subst (λ (m : Node). In m (with_prefixes (node.At e p))) first (In-map (λ q. node.At e q) ends.0),
       subst (λ (m : Node). In m (with_prefixes (node.At e p))) last (In-map (λ q. node.At e q) ends.1),
     )

@@ -1,5 +1,5 @@
 -- At most one derivation.
-use Rattle.std.proofs.Common.{◌≡◌, ℕ, ◌+◌, List, [], ◌∷◌, ap, refl, sym, ◌∙◌, arith, Some, None}
+use Rattle.std.proofs.Common.{◌≡◌, ℕ, ◌+◌, List, [], ◌∷◌, ap, refl, sym, ◌∙◌, Some, None}
 use Rattle.std.specs.Prelude.{slice_get}
 use Rattle.lfg_terms.specs.declared.node.Edge.{Edge}
 use Rattle.lfg_terms.specs.declared.grammar.Item.{Item}
@@ -7,11 +7,11 @@ use Rattle.lfg_terms.specs.declared.grammar.Rule.{Rule}
 use Rattle.lfg_terms.specs.declared.grammar.Grammar.{Grammar}
 use Rattle.lfg_terms.specs.declared.tree.TokenForms.{TokenForms}
 use Rattle.lfg_model.specs.Terms.{Name, Tree, leaf, inner, Parts, no_part, empty, daughter}
-use Rattle.lfg_model.specs.Resolve.{Fits}
+use Rattle.lfg_model.specs.Places.{PicksFit}
 use Rattle.lfg_model.specs.Derive.{rule_of, item_at, Walks, Derives, Covers, occurrences}
 use Rattle.lfg_model.specs.Unambiguous.{IsUnambiguous, OneDerivation}
 
-pub no_picks : (ps ns : List ℕ) → ns ≡ [] → Fits ps ns → ps ≡ []
+pub no_picks : (ps ns : List ℕ) → ns ≡ [] → PicksFit ps ns → ps ≡ []
 no_picks [] ns e f = refl
 no_picks (p ∷ ps) [] e f = absurd f
 no_picks (p ∷ ps) (n ∷ ns) e f = cc

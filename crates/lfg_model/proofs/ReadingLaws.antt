@@ -1,7 +1,5 @@
 -- Sets of facts and lists of readings are one list each.
-use Rattle.std.proofs.Common.{◌≡◌, List, rules, ◌∙◌, sym, ap}
 use Rattle.std.specs.Cmp.{IsTotalOrder}
-use Rattle.std.specs.Cmp.Rules.{comparing}
 use Rattle.std.proofs.lemmas.Cmp.{then_total, on_total, nat_list_cmp_total, lists_total}
 use Rattle.lfg_terms.specs.Order.{fact_cmp}
 use Rattle.lfg_terms.specs.OrderLaws.{fact_cmp_total}

@@ -1,13 +1,12 @@
 -- The solution of a list of literals: its relations are relations of classes.
-use Rattle.std.proofs.Common.{◌≡◌, ℕ, List, [], ◌∷◌, ◌++◌, length, refl, sym, ◌∙◌, ap, inl, inr, ◌⊎◌, Ordering}
+use Rattle.std.proofs.Common.{◌≡◌, ℕ, List, [], ◌∷◌, refl, sym, ◌∙◌, ap, inl, inr, Ordering}
 use Rattle.std.specs.declared.cmp.Ordering.TheVariants as order
 use Rattle.std.specs.Ordering.{ordering_reverse, eq_by_cmp}
 use Rattle.std.proofs.lemmas.Bool.{cases_Bool, false≢true}
-use Rattle.std.specs.Prelude.{◌↔◌, ◌≢◌}
+use Rattle.std.specs.Prelude.{◌≢◌}
 use Rattle.lfg_terms.specs.Order.{name_cmp, node_cmp}
 use Rattle.lfg_terms.specs.OrderLaws.{node_cmp_total}
 use Rattle.lfg_terms.proofs.Ties.{node_ties}
-use Rattle.lfg_terms.specs.declared.node.Node as node
 use Rattle.lfg_terms.specs.declared.node.Node.{Node}
 use Rattle.lfg_terms.specs.declared.node.Arg as arg
 use Rattle.lfg_terms.specs.declared.node.Arg.{Arg}
@@ -16,10 +15,8 @@ use Rattle.lfg_terms.specs.declared.literal.Site.{Site}
 use Rattle.lfg_terms.specs.declared.literal.Literal.{Literal}
 use Rattle.lfg_model.specs.declared.constant.Constant.{Constant}
 use Rattle.lfg_model.specs.declared.constant.Constant.TheVariants as constant
-use Rattle.lfg_model.specs.Lists.{In, here, later}
 use Rattle.lfg_model.specs.Terms.{Name, Path}
 use Rattle.lfg_model.specs.Equal.{Equal, itself, stated, turned, joined, along}
-use Rattle.lfg_model.specs.Literals.{nodes, arcs, given, values, members}
 use Rattle.lfg_model.specs.Solve.{Solution, SameNode, HasArc, arc, HasValue, value, HasMember, member, solution, Clash, two_values, LeadsTo}
 use Rattle.lfg_model.proofs.RoundLaws.{name_tells}
 use Rattle.lfg_model.specs.Readings.{IsLeast, Called, by_atom, by_form, by_node}
@@ -66,9 +63,9 @@ module _ (ls : List Literal) where
 -- names that are not apart are one
 one_of : (a b : Name) → ¬ (a ≢ b) → a ≡ b
 one_of a b near = elim (cases_Bool (eq_by_cmp name_cmp a b)) [
-    inl t ↦ name_tells.told a b t
+  | inl t ↦ name_tells.told a b t
   | inr t ↦ absurd (near (λ e. false≢true (sym t ∙ ap (eq_by_cmp name_cmp a) (sym e) ∙ name_tells.itself a)))
-  ]
+]
 
 of_atom : (a b : Name) → constant.Atom a ≡ constant.Atom b → a ≡ b
 of_atom a b e = cc

@@ -1,13 +1,6 @@
--- Derivations of a sentence, their literals and the facts of their trees.
-use Rattle.std.specs.Prelude.{◌≡◌, ℕ, zero, suc, ◌+◌, ◌≤◌, Bool, true, ◌==◌, Option, Some, None, List, [], ◌∷◌, ◌++◌, length, slice_get, find, codes}
-use Rattle.std.specs.Cmp.Lexicographic.{pointwise}
+-- Derivations of a sentence.
+use Rattle.std.specs.Prelude.{◌≡◌, ℕ, zero, suc, ◌+◌, ◌≤◌, true, Option, Some, None, List, [], ◌∷◌, length, slice_get, find}
 use Rattle.lfg_terms.specs.declared.node.Edge.{Edge}
-use Rattle.lfg_terms.specs.declared.node.Node as node
-use Rattle.lfg_terms.specs.declared.node.Arg as arg
-use Rattle.lfg_terms.specs.declared.node.Arg.{Arg}
-use Rattle.lfg_terms.specs.declared.node.Fact.{Fact}
-use Rattle.lfg_terms.specs.declared.literal.Site.TheVariants as site
-use Rattle.lfg_terms.specs.declared.literal.Literal.{Literal}
 use Rattle.lfg_terms.specs.declared.grammar.Item.{Item}
 use Rattle.lfg_terms.specs.declared.grammar.Graph.{Graph}
 use Rattle.lfg_terms.specs.declared.grammar.Rule.{Rule}
@@ -15,11 +8,8 @@ use Rattle.lfg_terms.specs.declared.grammar.Lex.{Lex}
 use Rattle.lfg_terms.specs.declared.grammar.Grammar.{Grammar}
 use Rattle.lfg_terms.specs.declared.tree.TokenForms.{TokenForms}
 use Rattle.lfg_model.specs.Lists.{In}
-use Rattle.lfg_model.specs.Terms.{Name, Annotation, no_schema, annotation_of, Tree, leaf, inner, Parts, no_part, empty, daughter}
-use Rattle.lfg_model.specs.Resolve.{places, Fits, resolved}
-
-abbrev pub same_name : Name → Name → Bool
-same_name = pointwise ◌==◌
+use Rattle.lfg_model.specs.Terms.{Name, same_name, annotation_of, Tree, leaf, inner, Parts, no_part, empty, daughter}
+use Rattle.lfg_model.specs.Places.{places, PicksFit}
 
 -- the rule of a category: the first that heads it
 abbrev pub rule_of : Grammar → Name → Option Rule
@@ -45,8 +35,8 @@ abbrev pub Runs : Graph → ℕ → List ℕ → Type 0
 Runs graph q [] = CanEnd graph q
 Runs graph q (p ∷ rest) = CanFollow graph q p × Runs graph p rest
 
--- A row of items is walked by the graph: it is not empty, its first may begin, each next one may
--- follow the one before, and its last may end.
+-- The graph walks a row of items: from one that may begin, over items that may follow each other, to
+-- one that may end. No row is empty.
 abbrev pub Walks : Graph → List ℕ → Type 0
 Walks graph w = Runs graph 0 w
 
@@ -56,6 +46,7 @@ occurrences no_part = []
 occurrences (empty occ picks rest) = occ ∷ occurrences rest
 occurrences (daughter occ picks below rest) = occ ∷ occurrences rest
 
+-- the edge of a category from a place to a place
 abbrev pub edge : Name → ℕ → ℕ → Edge
 edge cat from to = record { cat = cat; from = from; to = to }
 
@@ -68,7 +59,7 @@ pub record IsWord (g : Grammar) (s : List TokenForms) (cat : Name) (entry : ℕ)
   pub token : TokenForms
   pub read : slice_get s at ≡ Some token
   pub offered : In lex.form token.forms
-  pub fits : Fits picks (places (annotation_of lex.schemata))
+  pub fits : PicksFit picks (places (annotation_of lex.schemata))
 
 -- The rule's item with this number has this category, or is `e` for None, and the picks fit its
 -- annotation.
@@ -76,7 +67,7 @@ pub record IsItem (rule : Rule) (occ : ℕ) (cat : Option Name) (picks : List �
   pub item : Item
   pub listed : item_at rule.items occ ≡ Some item
   pub category : item.cat ≡ cat
-  pub fits : Fits picks (places (annotation_of item.schemata))
+  pub fits : PicksFit picks (places (annotation_of item.schemata))
 
 -- The tree derives the edge (Kaplan and Bresnan 1982, with rules whose right sides are graphs of
 -- items): a word covers one token, and the parts of a rule cover the edge from its start to its
@@ -98,84 +89,3 @@ abbrev mutual
 pub record Whole (g : Grammar) (s : List TokenForms) (d : Tree) : Type 0 where
   pub some_token : 1 ≤ length s
   pub derives : Derives g s d (edge g.root 0 (length s))
-
--- how many tokens a tree covers
-abbrev mutual
-  pub width : Tree → ℕ
-  width (leaf cat entry picks) = 1
-  width (inner cat parts) = parts_width parts
-
-  pub parts_width : Parts → ℕ
-  parts_width no_part = 0
-  parts_width (empty occ picks rest) = parts_width rest
-  parts_width (daughter occ picks below rest) = width below + parts_width rest
-
-abbrev pub cat_of : Tree → Name
-cat_of (leaf cat entry picks) = cat
-cat_of (inner cat parts) = cat
-
--- the edge of a tree that begins at a place
-abbrev pub edge_of : Tree → ℕ → Edge
-edge_of d from = edge (cat_of d) from (from + width d)
-
-abbrev pub item_annotation : Option Item → Annotation
-item_annotation None = no_schema
-item_annotation (Some item) = annotation_of item.schemata
-
-abbrev pub entry_annotation : Option Lex → Annotation
-entry_annotation None = no_schema
-entry_annotation (Some lex) = annotation_of lex.schemata
-
-abbrev pub items_of : Option Rule → List Item
-items_of None = []
-items_of (Some rule) = rule.items
-
--- The literals of a tree that begins at a place: those of each part's annotation and of each
--- word's. At a daughter `^` is the mother's edge and `!` the daughter's own (Kaplan and Bresnan
--- 1982). At an empty item both are the mother's, at a word both are its own.
-abbrev mutual
-  pub literals : Grammar → Tree → ℕ → List Literal
-  literals g (leaf cat entry picks) from =
-      let own = edge cat from (from + 1) in
-      resolved (record { up = own; down = own; site = site.Entry own entry }) (entry_annotation (slice_get g.lexicon entry)) picks 0
-  literals g (inner cat parts) from =
-      parts_literals g (items_of (rule_of g cat)) (edge cat from (from + parts_width parts)) parts from
-
-  pub parts_literals : Grammar → List Item → Edge → Parts → ℕ → List Literal
-  parts_literals g items mother no_part at = []
-  parts_literals g items mother (empty occ picks rest) at =
-      resolved (record { up = mother; down = mother; site = site.Item mother occ at at }) (item_annotation (item_at items occ)) picks 0
-      ++ parts_literals g items mother rest at
-  parts_literals g items mother (daughter occ picks below rest) at =
-      let to = at + width below in
-      resolved (record { up = mother; down = edge_of below at; site = site.Item mother occ at to }) (item_annotation (item_at items occ)) picks 0
-      ++ (literals g below at ++ parts_literals g items mother rest to)
-
--- an edge as an argument of a fact: its own node
-abbrev pub edge_arg : Edge → Arg
-edge_arg e = arg.Node (node.At e [])
-
--- the daughter's edge lies directly under the mother's
-abbrev pub under : Edge → Edge → Fact
-under below mother = record { rel = codes "under"; args = edge_arg below ∷ edge_arg mother ∷ [] }
-
--- the edge is that of a token with this text
-abbrev pub word : Edge → Name → Fact
-word e text = record { rel = codes "word"; args = edge_arg e ∷ arg.Atom text ∷ [] }
-
-abbrev pub word_facts : Option TokenForms → Edge → List Fact
-word_facts None e = []
-word_facts (Some token) e = word e token.text ∷ []
-
--- The facts of a tree that begins at a place: `under` for each edge but the root, `word` for each
--- word (this project's own).
-abbrev mutual
-  pub tree_facts : List TokenForms → Tree → ℕ → List Fact
-  tree_facts s (leaf cat entry picks) from = word_facts (slice_get s from) (edge cat from (from + 1))
-  tree_facts s (inner cat parts) from = parts_facts s (edge cat from (from + parts_width parts)) parts from
-
-  pub parts_facts : List TokenForms → Edge → Parts → ℕ → List Fact
-  parts_facts s mother no_part at = []
-  parts_facts s mother (empty occ picks rest) at = parts_facts s mother rest at
-  parts_facts s mother (daughter occ picks below rest) at =
-      under (edge_of below at) mother ∷ (tree_facts s below at ++ parts_facts s mother rest (at + width below))

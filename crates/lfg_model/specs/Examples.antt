@@ -43,7 +43,7 @@ SetsWithoutPredAreExempt =
     → (¬ IsCoherent (solution (one_function e g v)) (g ∷ []))
     × IsCoherent (solution (literal.Member (root f) (root e) ∷ one_function e g v)) (g ∷ [])
 
--- Law: a negated constraint holds exactly where the plain one does not.
+-- Law: a negated constraint is true just where the plain one is false.
 abbrev pub NegatedWherePlainFails : Type 0
 NegatedWherePlainFails =
     (ls : List Literal) (w : Walk) (t : Target)

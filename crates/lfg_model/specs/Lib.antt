@@ -1,3 +1,4 @@
+pub mod Brackets
 pub mod Derive
 pub mod Equal
 pub mod Examples
@@ -6,6 +7,7 @@ pub mod Literals
 pub mod ManWalks
 pub mod Output
 pub mod PairTexts
+pub mod Places
 pub mod Readings
 pub mod Resolve
 pub mod Rounds
@@ -14,4 +16,5 @@ pub mod Terms
 pub mod Thin
 pub mod Pieces
 pub mod Tokens
+pub mod Trees
 pub mod Unambiguous

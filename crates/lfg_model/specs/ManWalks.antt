@@ -14,7 +14,8 @@ use Rattle.lfg_terms.specs.declared.grammar.Grammar.{Grammar}
 use Rattle.lfg_terms.specs.declared.tree.TokenForms.{TokenForms}
 use Rattle.lfg_model.specs.declared.pair.Pair.{Pair}
 use Rattle.lfg_model.specs.Terms.{Name, Path, Paths}
-use Rattle.lfg_model.specs.Derive.{edge, under, word}
+use Rattle.lfg_model.specs.Derive.{edge}
+use Rattle.lfg_model.specs.Trees.{under, word}
 use Rattle.lfg_model.specs.PairTexts.{pair_text}
 use Rattle.lfg_model.specs.Readings.{has_attribute, IsReadings}
 

@@ -15,6 +15,7 @@ use Rattle.lfg_terms.specs.declared.node.Fact.{Fact}
 use Rattle.lfg_model.specs.declared.pair.Pair.{Pair}
 use Rattle.lfg_model.specs.Terms.{Name}
 
+-- two edges are one
 abbrev pub same_edge : Edge → Edge → Bool
 same_edge = eq_by_cmp edge_cmp
 
@@ -29,6 +30,7 @@ branch_of (arg.Node (node.At daughter p) ∷ arg.Node (node.At mother q) ∷ [])
 branch_of (arg.Node (node.At mother p) ∷ arg.Atom text ∷ []) = to_word text mother
 branch_of _ = no_branch
 
+-- whether this stands under the edge
 abbrev pub is_under : Edge → Branch → Bool
 is_under e (to_daughter daughter mother) = same_edge mother e
 is_under e (to_word text mother) = same_edge mother e
@@ -51,11 +53,13 @@ text_below zero facts e = []
 text_below (suc depth) facts e =
     codes "[" ++ name_text e.cat ++ flat_map (branch_text (text_below depth facts)) (branches_under facts e) ++ codes "]"
 
+-- the edge under which this stands
 abbrev pub mothers : Branch → List Edge
 mothers (to_daughter daughter mother) = mother ∷ []
 mothers (to_word text mother) = mother ∷ []
 mothers no_branch = []
 
+-- whether this is the edge as a daughter
 abbrev pub is_to : Edge → Branch → Bool
 is_to e (to_daughter daughter mother) = same_edge daughter e
 is_to e (to_word text mother) = false

@@ -9,15 +9,17 @@ use Rattle.lfg_terms.specs.declared.node.Fact.{Fact}
 use Rattle.lfg_terms.specs.declared.grammar.Form.{Form}
 use Rattle.lfg_terms.specs.declared.grammar.Grammar.{Grammar}
 use Rattle.lfg_terms.specs.declared.literal.Site.{Site}
+use Rattle.lfg_terms.specs.declared.literal.Literal.{Literal}
 use Rattle.lfg_terms.specs.declared.tree.TokenForms.{TokenForms}
 use Rattle.lfg_model.specs.declared.constant.Constant.{Constant}
 use Rattle.lfg_model.specs.declared.constant.Constant.TheVariants as constant
 use Rattle.lfg_model.specs.declared.pair.Pair.{Pair}
 use Rattle.lfg_model.specs.Lists.{In, Lists}
 use Rattle.lfg_model.specs.Terms.{Name, Tree}
-use Rattle.lfg_model.specs.Derive.{Whole, literals, tree_facts}
-use Rattle.lfg_model.specs.Literals.{checks}
-use Rattle.lfg_model.specs.Solve.{Solution, solution, HasForm, IsWellFormed}
+use Rattle.lfg_model.specs.Derive.{Whole}
+use Rattle.lfg_model.specs.Trees.{literals, tree_facts}
+use Rattle.lfg_model.specs.Literals.{nodes, checks}
+use Rattle.lfg_model.specs.Solve.{Solution, solution, Clash, HasForm, IsWellFormed}
 use Rattle.lfg_model.specs.PairTexts.{pair_cmp}
 
 -- The solution of the equations of a derivation of a sentence.
@@ -50,15 +52,15 @@ module _ (y : Solution) where
     pub same : y.same x z
     pub least : (w : Node) → y.same x w → ¬ (node_cmp w z ≡ Less)
 
-  -- What a class is called: its atom, the name of its form, or else its least node (this project's
-  -- own).
+  -- What a class is called: one with an atom or a form goes by that name, any other by its least
+  -- node (this project's own).
   pub data Called (x : Node) : Arg → Type 0 where
     by_atom : {a : Name} → y.value x (constant.Atom a) → Called x (arg.Atom a)
     by_form : {form : Form} {site : Site} {index : ℕ} → y.value x (constant.Form form site index) → Called x (arg.Atom form.name)
     by_node : {z : Node} → ((c : Constant) → ¬ y.value x c) → IsLeast x z → Called x (arg.Node z)
 
-  -- The facts of an f-structure: one for each arc, for each member of a set, and for each function
-  -- that the form of a class names (this project's own).
+  -- The facts of an f-structure: its arcs, its sets' members, and the functions that its forms name
+  -- (this project's own).
   pub data IsFact : Fact → Type 0 where
     of_arc : {x t : Node} {a : Name} {c u : Arg} → y.arc x a t → Called x c → Called t u → IsFact (has_attribute a c u)
     of_member : {x m : Node} {c u : Arg} → y.member x m → Called x c → Called m u → IsFact (in_set u c)
@@ -66,6 +68,12 @@ module _ (y : Solution) where
         → IsFact (argument c (suc k) g)
     of_outer : {x : Node} {c : Arg} {form : Form} (k : ℕ) {g : Name} → HasForm y x form → Called x c → slice_get form.outer k ≡ Some g
         → IsFact (nonargument c (suc k) g)
+
+-- Law: without a clash the class of each node has exactly one name.
+abbrev pub ClassesHaveOneName : Type 0
+ClassesHaveOneName =
+    (ls : List Literal) → ¬ Clash (solution ls) → (x : Node) → In x (nodes ls)
+    → (c : Arg) × Called (solution ls) x c × ((d : Arg) → Called (solution ls) x d → d ≡ c)
 
 -- The pair is that of a derivation: the facts of its tree and of its f-structure, each as a set.
 pub record IsPairOf (g : Grammar) (s : List TokenForms) (d : Tree) (p : Pair) : Type 0 where

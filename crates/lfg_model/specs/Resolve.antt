@@ -1,6 +1,6 @@
 -- Resolving: the literals of an annotation, once each of its choices is made. Arrows stand for
 -- nodes as in Kaplan and Bresnan 1982; the choices and their numbers are this project's own.
-use Rattle.std.specs.Prelude.{ℕ, zero, suc, ◌+◌, ◌<◌, Option, Some, None, List, [], ◌∷◌, ◌++◌, length, take, drop}
+use Rattle.std.specs.Prelude.{ℕ, zero, suc, ◌+◌, Option, Some, None, List, [], ◌∷◌, ◌++◌, length, take, drop}
 use Rattle.lfg_terms.specs.declared.node.Edge.{Edge}
 use Rattle.lfg_terms.specs.declared.node.Node as node
 use Rattle.lfg_terms.specs.declared.node.Node.{Node}
@@ -16,77 +16,8 @@ use Rattle.lfg_terms.specs.declared.literal.Target.TheVariants as target
 use Rattle.lfg_terms.specs.declared.literal.Check.TheVariants as check
 use Rattle.lfg_terms.specs.declared.literal.Literal.{Literal}
 use Rattle.lfg_terms.specs.declared.literal.Literal.TheVariants as literal
-use Rattle.lfg_model.specs.Terms.{Name, Path, Paths, Schema, define, constrain, exists, member, mark, either, maybe, call, Annotation, no_schema, and_schema, Branches, no_branch, or_branch}
-
--- A path with several strings is a numbered place, with as many alternatives as strings. The bare
--- arrow and a path with one string are none.
-abbrev pub path_places : Option Paths → List ℕ
-path_places None = []
-path_places (Some []) = []
-path_places (Some (p ∷ [])) = []
-path_places (Some (p ∷ q ∷ ps)) = length (p ∷ q ∷ ps) ∷ []
-
-abbrev pub val_places : Val Paths → List ℕ
-val_places (val.Des d) = path_places d.path
-val_places (val.Atom a) = []
-val_places (val.Form f) = []
-
-abbrev pub branch_count : Branches → ℕ
-branch_count no_branch = 0
-branch_count (or_branch b bs) = suc (branch_count bs)
-
--- How many alternatives each numbered place of an annotation has, in written order, a disjunction
--- or option before the places inside it. Places inside a branch that is not taken count too.
-abbrev mutual
-  pub places : Annotation → List ℕ
-  places no_schema = []
-  places (and_schema s rest) = schema_places s ++ places rest
-
-  pub schema_places : Schema → List ℕ
-  schema_places (define left right) = path_places left.path ++ val_places right
-  schema_places (constrain negated left right) = []
-  schema_places (exists negated left) = []
-  schema_places (member item set) = path_places item.path ++ path_places set.path
-  schema_places (mark name) = []
-  schema_places (either branches) = branch_count branches ∷ branch_places branches
-  schema_places (maybe inside) = 2 ∷ places inside
-  schema_places (call name args) = []
-
-  pub branch_places : Branches → List ℕ
-  branch_places no_branch = []
-  branch_places (or_branch b bs) = places b ++ branch_places bs
-
--- the picks take one alternative, counted from 0, at each numbered place
-abbrev pub Fits : List ℕ → List ℕ → Type 0
-Fits [] [] = Unit {0}
-Fits [] (n ∷ ns) = ⊥
-Fits (k ∷ picks) [] = ⊥
-Fits (k ∷ picks) (n ∷ ns) = (k < n) × Fits picks ns
-
-abbrev pub val_forms : Val Paths → ℕ
-val_forms (val.Des d) = 0
-val_forms (val.Atom a) = 0
-val_forms (val.Form f) = 1
-
--- how many semantic forms an annotation has, in branches that are not taken too
-abbrev mutual
-  pub form_count : Annotation → ℕ
-  form_count no_schema = 0
-  form_count (and_schema s rest) = schema_forms s + form_count rest
-
-  pub schema_forms : Schema → ℕ
-  schema_forms (define left right) = val_forms right
-  schema_forms (constrain negated left right) = 0
-  schema_forms (exists negated left) = 0
-  schema_forms (member item set) = 0
-  schema_forms (mark name) = 0
-  schema_forms (either branches) = branch_forms branches
-  schema_forms (maybe inside) = form_count inside
-  schema_forms (call name args) = 0
-
-  pub branch_forms : Branches → ℕ
-  branch_forms no_branch = 0
-  branch_forms (or_branch b bs) = form_count b + branch_forms bs
+use Rattle.lfg_model.specs.Places.{path_places, schema_places, places, schema_forms, form_count}
+use Rattle.lfg_model.specs.Terms.{Path, Paths, Schema, define, constrain, exists, member, mark, either, maybe, call, Annotation, no_schema, and_schema, Branches, no_branch, or_branch}
 
 -- an instance of an annotation: the edges of its arrows, and the site that tells its forms apart
 pub record Instance : Type 0 where
@@ -94,16 +25,18 @@ pub record Instance : Type 0 where
   pub down : Edge
   pub site : Site
 
+-- the edge of an arrow
 abbrev pub edge_at : Instance → Arrow → Edge
 edge_at instance Up = instance.up
 edge_at instance Down = instance.down
 
--- the string that a path takes: the only one, or that of the pick
+-- the string with this number, from 0
 abbrev pub string_at : Paths → ℕ → Path
 string_at [] k = []
 string_at (p ∷ ps) zero = p
 string_at (p ∷ ps) (suc k) = string_at ps k
 
+-- the string that a designator takes; the bare arrow has the empty one
 abbrev pub string_taken : Option Paths → List ℕ → Path
 string_taken None picks = []
 string_taken (Some ps) [] = string_at ps 0
@@ -118,6 +51,7 @@ abbrev pub strings_of : Option Paths → Paths
 strings_of None = [] ∷ []
 strings_of (Some ps) = ps
 
+-- a designator in a constraint is a walk from the arrow's node along its strings
 abbrev pub walk_of : Instance → Des Paths → Walk
 walk_of instance d = record { start = node.At (edge_at instance d.arrow) []; paths = strings_of d.path }
 

@@ -5,15 +5,15 @@ use Rattle.lfg_model.specs.Lists.{In}
 use Rattle.lfg_model.specs.Terms.{Name}
 use Rattle.lfg_model.specs.Equal.{Equal}
 
--- Round 0 has each node with itself, and each given pair both ways. Each later round has the round
--- before it, (x, z) where that has (x, y) and (y, z), and the targets of arcs by one attribute from
--- x and y where that has (x, y).
+-- Round 0 pairs each node with itself, and takes each given pair in both orders. A later round keeps
+-- what the one before it has, puts pairs of it together where one ends as the other begins, and
+-- pairs the targets of arcs by one attribute wherever it has paired the sources.
 abbrev pub Round : {X A : Type 0} → List X → List (X × X) → List (X × A × X) → ℕ → X → X → Type 0
 Round nodes given arcs zero x y = (In x nodes × (x ≡ y)) ⊎ (In (x, y) given ⊎ In (y, x) given)
 Round {X} {A} nodes given arcs (suc k) t u =
     Round nodes given arcs k t u
-  ⊎ (((y : X) × Round nodes given arcs k t y × Round nodes given arcs k y u)
-  ⊎ ((x : X) × (y : X) × (a : A) × Round nodes given arcs k x y × In (x, a, t) arcs × In (y, a, u) arcs))
+    ⊎ (((y : X) × Round nodes given arcs k t y × Round nodes given arcs k y u)
+    ⊎ ((x : X) × (y : X) × (a : A) × Round nodes given arcs k x y × In (x, a, t) arcs × In (y, a, u) arcs))
 
 -- given pairs and arcs are between nodes of the list
 pub record AreBetween {X A : Type 0} (nodes : List X) (given : List (X × X)) (arcs : List (X × A × X)) : Type 0 where

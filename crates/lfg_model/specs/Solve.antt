@@ -31,8 +31,8 @@ pub record Solution : Type 1 where
   -- the class of the first, a set, has the class of the second as a member
   pub member : Node → Node → Type 0
 
--- The solution of a list of literals: equal nodes are the same, and a class has the arcs, constants
--- and members of its nodes.
+-- The solution of a list of literals: equal nodes are the same, and what is stated of a node is so
+-- of its whole class.
 module _ (ls : List Literal) where
   abbrev pub SameNode : Node → Node → Type 0
   SameNode = Equal (nodes ls) (given ls) (arcs ls)
@@ -61,7 +61,8 @@ abbrev pub pred : Name
 pred = codes "PRED"
 
 module _ (y : Solution) where
-  -- Uniqueness fails: a class has two constants, or a constant beside an arc or a member.
+  -- Uniqueness fails: two constants that differ meet in a class, or a constant meets an arc or a
+  -- member there.
   pub data Clash : Type 0 where
     two_values : {x : Node} {c d : Constant} → y.value x c → y.value x d → c ≢ d → Clash
     beside_arc : {x t : Node} {a : Name} {c : Constant} → y.value x c → y.arc x a t → Clash
@@ -89,7 +90,7 @@ module _ (y : Solution) where
   abbrev pub LeadsSomewhere : Walk → Type 0
   LeadsSomewhere w = (z : Node) × Reaches w z
 
-  -- the constraint is true; a negated one is where the plain one is not
+  -- the constraint is true; a negated one just where the plain one is false
   abbrev pub Holds : Check → Type 0
   Holds (check.Same false w t) = Agrees w t
   Holds (check.Same true w t) = ¬ Agrees w t
@@ -106,13 +107,15 @@ module _ (y : Solution) where
     one_step : {x t : Node} → Step x t → Below x t
     more_steps : {x z t : Node} → Step x z → Below z t → Below x t
 
-  -- no class reaches itself by steps down
+  -- no class is below itself
   abbrev pub IsAcyclic : Type 0
   IsAcyclic = (x : Node) → ¬ Below x x
 
+  -- the class has a PRED arc
   abbrev pub HasPred : Node → Type 0
   HasPred x = (t : Node) × y.arc x pred t
 
+  -- the class has a member
   abbrev pub IsSet : Node → Type 0
   IsSet x = (m : Node) × y.member x m
 
@@ -124,9 +127,9 @@ module _ (y : Solution) where
     pub index : ℕ
     pub is_value : y.value at (constant.Form form site index)
 
-  -- Completeness: a class has an arc by each function that its form names. Where the function
-  -- stands inside the angle brackets, the target has a PRED arc, or is a set with a member (the
-  -- case of sets is this project's own).
+  -- Completeness: whatever a form names is there. A function inside the angle brackets needs a
+  -- target with PRED, or one that is a set with a member (the case of sets is this project's own);
+  -- a function behind them needs a target alone.
   pub record IsComplete : Type 0 where
     pub inner : (x : Node) (form : Form) (g : Name) → HasForm x form → In g form.inner → (t : Node) × y.arc x g t × (HasPred t ⊎ IsSet t)
     pub outer : (x : Node) (form : Form) (g : Name) → HasForm x form → In g form.outer → (t : Node) × y.arc x g t
@@ -135,8 +138,8 @@ module _ (y : Solution) where
   abbrev pub IsGoverned : Node → Name → Type 0
   IsGoverned x g = (form : Form) × HasForm x form × (In g form.inner ⊎ In g form.outer)
 
-  -- Coherence: a class with an arc by a governable function has a form that names it. A set with a
-  -- member and without PRED is exempt (this project's own).
+  -- Coherence: whatever governable function is there, the form of its class names. This is not asked
+  -- of a set that has a member and no PRED (this project's own).
   pub record IsCoherent (governable : List Name) : Type 0 where
     pub each : (x t : Node) (g : Name) → In g governable → y.arc x g t → IsGoverned x g ⊎ (IsSet x × ¬ HasPred x)
 

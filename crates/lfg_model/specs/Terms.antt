@@ -1,6 +1,7 @@
 -- What nests in the terms, as plain data that definitions walk: annotations and derivations.
 -- Each comes with the view from the type of the program.
-use Rattle.std.specs.Prelude.{ℕ, Bool, List, [], ◌∷◌}
+use Rattle.std.specs.Prelude.{ℕ, Bool, ◌==◌, List, [], ◌∷◌}
+use Rattle.std.specs.Cmp.Lexicographic.{pointwise}
 use Rattle.lfg_terms.specs.declared.grammar.Des.{Des}
 use Rattle.lfg_terms.specs.declared.grammar.Val.{Val}
 use Rattle.lfg_terms.specs.declared.grammar.Schema as declared
@@ -10,6 +11,10 @@ use Rattle.lfg_terms.specs.declared.tree.Derivation.{Derivation, Leaf, Inner', N
 -- a category, an attribute, an atom, a relation or a word form, as its bytes
 abbrev pub Name : Type 0
 Name = List ℕ
+
+-- two names have the same bytes
+abbrev pub same_name : Name → Name → Bool
+same_name = pointwise ◌==◌
 
 -- a row of attributes
 abbrev pub Path : Type 0
@@ -42,6 +47,7 @@ mutual
     no_branch : Branches
     or_branch : Annotation → Branches → Branches
 
+-- the plain form of a schema, of the schemata inside an option, and of the branches of a disjunction
 abbrev mutual
   pub schema_of : declared.Schema Paths → Schema
   schema_of (declared.Define left right) = define left right
@@ -79,6 +85,7 @@ mutual
     empty : (occ : ℕ) (picks : List ℕ) → Parts → Parts
     daughter : (occ : ℕ) (picks : List ℕ) → Tree → Parts → Parts
 
+-- the plain form of a derivation, and of its parts
 abbrev mutual
   pub tree_of : Derivation → Tree
   tree_of (Leaf cat entry picks) = leaf cat entry picks.items

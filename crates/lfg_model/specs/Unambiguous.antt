@@ -8,7 +8,7 @@ use Rattle.lfg_terms.specs.declared.grammar.Grammar.{Grammar}
 use Rattle.lfg_terms.specs.declared.tree.TokenForms.{TokenForms}
 use Rattle.lfg_model.specs.Lists.{In}
 use Rattle.lfg_model.specs.Terms.{Name, annotation_of, Tree}
-use Rattle.lfg_model.specs.Resolve.{places}
+use Rattle.lfg_model.specs.Places.{places}
 use Rattle.lfg_model.specs.Derive.{rule_of, item_at, Walks, Derives}
 
 -- Nothing in the grammar leaves a choice for the sentence: each rule allows one row of items, no
