@@ -23,6 +23,7 @@ pub mod ReadingLaws
 pub mod RoundLaws
 pub mod Settling
 pub mod SolutionLaws
+pub mod SomeReading
 pub mod SymbolRule
 pub mod TreeOrder
 pub mod Within

@@ -1,4 +1,4 @@
-ghost use Rattle.std.specs.Prelude.{◌≡◌, ◌++◌, Some, List, ℕ};
+ghost use Rattle.std.specs.Prelude.{◌≡◌, ◌++◌, ◌⊎◌, Some, List, ℕ};
 ghost use Rattle.lfg_model.specs.Pieces.{piece_at, token};
 ghost use Rattle.lfg_model.specs.Tokens.{Tokens, Stuck, IsToken, LongestToken, GivesToken};
 ghost use Rattle.lfg_model.specs.declared.token.Token.{Token};
@@ -27,8 +27,10 @@ pub struct Token {
     pub to: u32,
 }
 
-/// A text has one reading at most: one row of tokens, or one place at which nothing begins.
+/// A text has exactly one reading: one row of tokens, or one place at which nothing begins.
 pub fn one_reading()
+    ensures some { (cs : List ℕ)
+        → ((ts : List Token) × Tokens 0 cs ts) ⊎ ((stop : ℕ) × Stuck 0 cs stop) }
     ensures rows { (cs : List ℕ) (ts us : List Token)
         → Tokens 0 cs ts → Tokens 0 cs us → ts ≡ us }
     ensures places { (cs : List ℕ) (stop other : ℕ)
