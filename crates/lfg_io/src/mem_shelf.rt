@@ -1,4 +1,4 @@
-ghost use Rattle.std.specs.Prelude.{◌≡◌, ◌≢◌, ◌≤◌, ◌++◌, List, [], Some, None, Err, IsTrue, IsSomeAnd, IfOk, OnOk, OnErr, MatchOption, map, string_bytes, take};
+ghost use Rattle.std.specs.Prelude.{◌≡◌, ◌≢◌, ◌≤◌, ◌++◌, [], Some, None, Err, IsSomeAnd, IfOk, OnOk, OnErr, MatchOption, map, take};
 ghost use Rattle.std.specs.List.{Contains};
 ghost use Rattle.std.specs.FinMap as finite;
 ghost use Rattle.lfg_io.specs.Counts.{raised, Rose};

@@ -1,4 +1,4 @@
-ghost use Rattle.std.specs.Prelude.{◌≡◌, ◌≢◌, ◌+◌, ◌≤◌, ◌↔◌, ◌++◌, List, [], Some, None, IsOk, IsErr, IfOk, IsSome, OnOk, OnErr, length, take};
+ghost use Rattle.std.specs.Prelude.{◌≡◌, ◌≢◌, ◌+◌, ◌≤◌, ◌↔◌, ◌++◌, [], Some, None, IsOk, IsErr, IfOk, IsSome, OnOk, OnErr, length, take};
 ghost use Rattle.lfg_io.specs.Counts.{raised, Rose};
 ghost use Rattle.lfg_io.specs.MemSink.{sure_room, stated, taken};
 ghost use Rattle.lfg_io.specs.Sink.{Appends, AppendsPrefix};
@@ -41,6 +41,7 @@ impl MemSink {
     /// Only for want of memory.
     pub fn new(alloc: Global, fails: Vec<(u64, usize)>, room: usize) -> Result<MemSink, AllocError>
         ensures made { IfOk result (λ sink. sink ≡ record { written = []; fails = fails.items; calls = 0; faults = 0; left = room }) }
+        ensures told { IfOk result (λ sink. ⟦<MemSink as Sink>⟧.written sink ≡ Some []) }
         ensures sure { fails.items ≡ [] → IfOk result (λ sink. ⟦<MemSink as Sink>⟧.room sink ≡ room) }
         ensures unsure { fails.items ≢ [] → IfOk result (λ sink. ⟦<MemSink as Sink>⟧.room sink ≡ 0) }
     {

@@ -54,7 +54,9 @@ pub fn put_pieces<O: Sink>(out: &mut O, pieces: &[&[u8]]) -> Result<(), SinkFaul
     ensures later { O.faults out.old ≤ O.faults out.new }
     ensures rose { OnErr result (Rose (O.faults out.old) (O.faults out.new)) }
 
+    // Pieces that the room has place for are taken.
     ensures sure { length (flat_map (λ piece. piece.now) pieces.now) ≤ O.room out.old → IsOk result }
+    ensures room_left { length (flat_map (λ piece. piece.now) pieces.now) ≤ O.room out.old → O.room out.new + length (flat_map (λ piece. piece.now) pieces.now) ≡ O.room out.old }
 {
     for piece in pieces {
         out.put(piece)?;

@@ -1,5 +1,7 @@
-ghost use Rattle.std.specs.Prelude.{◌≡◌, ℕ, ◌≤◌, [], None, IsOk, OnOk, OnErr, length, take};
-ghost use Rattle.std.specs.Io.KnownBytes.{Appends};
+ghost use Rattle.std.specs.Prelude.{◌≡◌, ℕ, ◌+◌, ◌≤◌, [], None, IsOk, OnOk, OnErr, length, take};
+ghost use Rattle.std.specs.Io.KnownBytes as known;
+ghost use Rattle.lfg_io.specs.Counts.{Rose};
+ghost use Rattle.lfg_io.specs.Sink.{Appends, AppendsPrefix};
 
 use crate::counts::raise;
 use crate::sink::{Sink, SinkFault};
@@ -13,9 +15,12 @@ pub struct StdSink<W: Write> {
 }
 
 impl<W: Write> StdSink<W> {
+    ghost use Rattle.lfg_io.specs.StdSink.{stream_of};
+
     /// A sink over the stream that has counted no fault.
     pub fn new(stream: W) -> StdSink<W>
-        ensures { ⟦<StdSink<W> as Sink>⟧.faults result ≡ 0 }
+        ensures stream { stream_of result ≡ stream }
+        ensures faults { ⟦<StdSink<W> as Sink>⟧.faults result ≡ 0 }
     {
         StdSink { stream, faults: 0 }
     }
@@ -23,8 +28,8 @@ impl<W: Write> StdSink<W> {
 
 /// Writes until the stream has taken all bytes. A write that takes nothing is a fault.
 fn write_whole<W: Write>(stream: &mut W, bytes: &[u8]) -> Result<(), SinkFault>
-    ensures written { OnOk result (Appends (W.contents stream.old) (W.contents stream.new) bytes.now) }
-    ensures cut { OnErr result ((count : ℕ) × (count ≤ length bytes.now) × Appends (W.contents stream.old) (W.contents stream.new) (take count bytes.now)) }
+    ensures written { OnOk result (known.Appends (W.contents stream.old) (W.contents stream.new) bytes.now) }
+    ensures cut { OnErr result ((count : ℕ) × (count ≤ length bytes.now) × known.Appends (W.contents stream.old) (W.contents stream.new) (take count bytes.now)) }
     ensures nothing { bytes.now ≡ [] → IsOk result × (stream.new ≡ stream.old) }
 {
     let mut taken = 0;
@@ -42,9 +47,24 @@ impl<W: Write> Sink for StdSink<W> {
 
     ghost room = { λ _. 0 };
 
-    ghost faults = { λ sink. sink.faults };
+    ghost use Rattle.lfg_io.specs.StdSink.{stream_of, faults_of};
 
-    fn put(&mut self, bytes: &[u8]) -> Result<(), SinkFault> {
+    ghost faults = { faults_of };
+
+    /// Writes until the stream has taken all bytes. A write that takes nothing of some bytes is a fault.
+    fn put(&mut self, bytes: &[u8]) -> Result<(), SinkFault>
+        ensures appended { OnOk result (Appends None None bytes.now) }
+        ensures cut { OnErr result (AppendsPrefix None None bytes.now) }
+        ensures later { faults_of self.old ≤ faults_of self.new }
+        ensures rose { OnErr result (Rose (faults_of self.old) (faults_of self.new)) }
+        ensures sure { length bytes.now ≤ 0 → IsOk result }
+        ensures room_left { length bytes.now ≤ 0 → 0 + length bytes.now ≡ 0 }
+        ensures nothing { bytes.now ≡ [] → IsOk result × (self.new ≡ self.old) }
+
+        // Where the stream itself tells what it holds, it has taken all bytes.
+        ensures taken { OnOk result (known.Appends (W.contents (stream_of self.old)) (W.contents (stream_of self.new)) bytes.now) }
+        ensures faults_kept { OnOk result (faults_of self.new ≡ faults_of self.old) }
+    {
         let answer = write_whole(&mut self.stream, bytes);
         if answer.is_err() {
             self.faults = raise(self.faults);
