@@ -18,3 +18,4 @@ pub mod Pieces
 pub mod Tokens
 pub mod Trees
 pub mod Unambiguous
+pub mod ThinText
