@@ -12,6 +12,7 @@ pub mod Rounds
 pub mod Solve
 pub mod Terms
 pub mod Thin
+pub mod ThinText
 pub mod Pieces
 pub mod Tokens
 pub mod Unambiguous
