@@ -1,4 +1,5 @@
-ghost use Rattle.std.specs.Prelude.{◌≡◌, ◌<◌, IfOk, IfSome, length, map};
+ghost use Rattle.std.specs.Prelude.{◌≡◌, ◌<◌, ◌≤◌, IfOk, IfSome, length, map};
+ghost use Rattle.std.specs.Option.{option_copied};
 ghost use Rattle.lfg_model.specs.ThinText.{Row, is_nothing, daughter_at, behind_annotation, behind_arrow, IsDaughter, IsPhrase, IsEnded};
 ghost use Rattle.xle_run.specs.Reading.{Reads, Found, FoundAt};
 ghost use Rattle.xle_run.specs.Drafts.{daughter_view, phrase_view};
@@ -12,7 +13,7 @@ use std::alloc::{AllocError, Global};
 /// A daughter with copies of these names.
 fn daughter_of(cat: &Name, function: Option<&Name>) -> Result<Daughter, AllocError>
     ensures cat { IfOk result (λ x. x.cat ≡ cat.now) }
-    ensures function { IfOk result (λ x. x.function ≡ option_copied function) }
+    ensures function { IfOk result (λ x. x.function ≡ option_copied function.entry) }
 {
     let function = match function {
         Some(function) => Some(function.clone()?),
