@@ -1,9 +1,9 @@
 -- What stands in a section: rules, words and the root.
-use Rattle.std.proofs.Common.{◌≡◌, ◌≢◌, ℕ, Bool, true, false, Option, Some, None, List, [], ◌∷◌, ◌++◌, map, length, refl, ap, sym, ◌∙◌, subst}
+use Rattle.std.proofs.Common.{◌≡◌, ◌≢◌, ℕ, Bool, true, false, Option, Some, None, List, [], ◌∷◌, ◌++◌, map, length, refl, ap, sym, ◌∙◌, subst, codes}
 use Rattle.lfg_model.specs.declared.lexeme.Lexeme.{Lexeme}
 use Rattle.lfg_model.specs.Terms.{Name}
-use Rattle.lfg_model.specs.Thin.{Daughter, Phrase, Equation, Entry}
-use Rattle.lfg_model.specs.ThinText.{Row, is_nothing, is_entry_end, up_to, is_stop, is_divider, IsEnded, IsDaughter, IsEquation, IsPhrase, IsEntry, behind_arrow, behind_star, Heading, IsSection, IsFilled, IsConfig, root_at, behind_heading, AreSections}
+use Rattle.lfg_model.specs.Thin.{Daughter, Phrase, Equation, Entry, Draft}
+use Rattle.lfg_model.specs.ThinText.{Row, is_nothing, is_entry_end, up_to, is_stop, is_divider, IsEnded, IsDaughter, IsEquation, IsPhrase, IsEntry, behind_arrow, behind_star, Heading, IsSection, IsFilled, IsConfig, root_at, behind_heading, AreSections, Says}
 use Rattle.xle_run.proofs.Rows.{read_once, unread, empty_row, same_some}
 
 -- ---- what is ended by a stop
@@ -70,3 +70,30 @@ no_root section entries kind is e es cat s r = none_some cat (sym (ap root_at (s
   where
     none_some : (z : Name) → ◌≡◌ {A = Option Name} None (Some z) → ⊥
     none_some z s = cc
+
+-- ---- the file
+
+pub record SameSections (a b c x y z : List Lexeme) : Type 0 where
+  pub config : a ≡ x
+  pub rules : b ≡ y
+  pub lexicon : c ≡ z
+
+pub sections_once : (ls a b c x y z : List Lexeme) → AreSections ls a b c → AreSections ls x y z → SameSections a b c x y z
+sections_once ls a b c x y z r s =
+    let p = read_once (up_to is_divider ls) a x r.behind_config s.behind_config r.first s.first in
+    let q = read_once (up_to is_divider r.behind_config) b y r.behind_rules s.behind_rules r.second (ap (up_to is_divider) p.1 ∙ s.second) in
+    let o = read_once (up_to is_divider r.behind_rules) c z [] [] r.third (ap (up_to is_divider) q.1 ∙ s.third) in
+    record { config = p.0; rules = q.0; lexicon = o.0 }
+
+module _ (ls a b c : List Lexeme) (sections : AreSections ls a b c) where
+  pub no_config : ((root : Name) → IsConfig a root → ⊥) → (d : Draft) → Says ls d → ⊥
+  no_config never d s = never d.root (subst (λ (us : List Lexeme). IsConfig us d.root) (sections_once ls s.config s.rules s.lexicon a b c s.sections sections).config s.root)
+
+  pub no_phrases : ((ps : List Phrase) → IsFilled (codes "RULES") (IsEnded IsPhrase) b ps → ⊥) → (d : Draft) → Says ls d → ⊥
+  no_phrases never d s = never d.phrases (subst (λ (us : List Lexeme). IsFilled (codes "RULES") (IsEnded IsPhrase) us d.phrases) (sections_once ls s.config s.rules s.lexicon a b c s.sections sections).rules s.phrases)
+
+  pub no_words : ((xs : List Entry) → IsFilled (codes "LEXICON") (IsEnded IsEntry) c xs → ⊥) → (d : Draft) → Says ls d → ⊥
+  no_words never d s = never d.entries (subst (λ (us : List Lexeme). IsFilled (codes "LEXICON") (IsEnded IsEntry) us d.entries) (sections_once ls s.config s.rules s.lexicon a b c s.sections sections).lexicon s.entries)
+
+pub no_sections : (ls : List Lexeme) → ((a b c : List Lexeme) → AreSections ls a b c → ⊥) → (d : Draft) → Says ls d → ⊥
+no_sections ls never d s = never s.config s.rules s.lexicon s.sections

@@ -1,3 +1,4 @@
 pub mod Cutting
 pub mod Forms
+pub mod Places
 pub mod Rows

@@ -1,7 +1,7 @@
 ghost use Rattle.std.specs.Prelude.{◌≡◌, ◌↔◌, List, ℕ, IfOk, IsTrue, MatchOption, None, Some, codes, map};
 ghost use Rattle.lfg_model.specs.declared.lexeme.Lexeme.{Lexeme};
 ghost use Rattle.lfg_model.specs.Lists.{In};
-ghost use Rattle.lfg_model.specs.ThinText.{behind_heading, in_set, root_at, AreSections, IsConfig, IsEnded, IsEntry, IsFilled, IsPhrase, IsSection, Says};
+ghost use Rattle.lfg_model.specs.ThinText.{behind_heading, in_set, is_nothing, root_at, Row, AreSections, IsConfig, IsEnded, IsEntry, IsFilled, IsPhrase, IsSection, Says};
 ghost use Rattle.xle_run.specs.Reading.{Found};
 ghost use Rattle.xle_run.specs.Drafts.{draft_view, entry_view, phrase_view};
 
@@ -97,13 +97,10 @@ fn root_of(section: &[Lexeme]) -> Option<&Name>
     root_at(entries_in("CONFIG", section)?)
 }
 
-/// The rules of the RULES section, of which there is one at least.
-fn phrases_of(alloc: Global, section: &[Lexeme]) -> Result<Option<Vec<Phrase>>, AllocError>
-    ensures { IfOk result (λ o. Found (λ v. map phrase_view v.items) (IsFilled (codes "RULES") (IsEnded IsPhrase) section.now) o) }
+/// The rules that stand there, each with its stop.
+fn phrases_in(alloc: Global, entries: &[Lexeme]) -> Result<Option<Vec<Phrase>>, AllocError>
+    ensures { IfOk result (λ o. Found (λ v. map phrase_view v.items) (Row is_nothing (IsEnded IsPhrase) entries.now) o) }
 {
-    let Some(entries) = entries_in("RULES", section) else {
-        return Ok(None);
-    };
     let mut phrases = Vec::new(alloc);
     let mut rest = entries;
     while !rest.is_empty() {
@@ -113,6 +110,19 @@ fn phrases_of(alloc: Global, section: &[Lexeme]) -> Result<Option<Vec<Phrase>>, 
         phrases.push(phrase)?;
         rest = behind;
     }
+    Ok(Some(phrases))
+}
+
+/// The rules of the RULES section, of which there is one at least.
+fn phrases_of(alloc: Global, section: &[Lexeme]) -> Result<Option<Vec<Phrase>>, AllocError>
+    ensures { IfOk result (λ o. Found (λ v. map phrase_view v.items) (IsFilled (codes "RULES") (IsEnded IsPhrase) section.now) o) }
+{
+    let Some(entries) = entries_in("RULES", section) else {
+        return Ok(None);
+    };
+    let Some(phrases) = phrases_in(alloc, entries)? else {
+        return Ok(None);
+    };
     if phrases.is_empty() {
         Ok(None)
     } else {
@@ -120,13 +130,10 @@ fn phrases_of(alloc: Global, section: &[Lexeme]) -> Result<Option<Vec<Phrase>>, 
     }
 }
 
-/// The words of the LEXICON section, of which there is one at least.
-fn words_of(alloc: Global, section: &[Lexeme]) -> Result<Option<Vec<Entry>>, AllocError>
-    ensures { IfOk result (λ o. Found (λ v. map entry_view v.items) (IsFilled (codes "LEXICON") (IsEnded IsEntry) section.now) o) }
+/// The words that stand there, each with its stop.
+fn words_in(alloc: Global, entries: &[Lexeme]) -> Result<Option<Vec<Entry>>, AllocError>
+    ensures { IfOk result (λ o. Found (λ v. map entry_view v.items) (Row is_nothing (IsEnded IsEntry) entries.now) o) }
 {
-    let Some(entries) = entries_in("LEXICON", section) else {
-        return Ok(None);
-    };
     let mut words = Vec::new(alloc);
     let mut rest = entries;
     while !rest.is_empty() {
@@ -136,6 +143,19 @@ fn words_of(alloc: Global, section: &[Lexeme]) -> Result<Option<Vec<Entry>>, All
         words.push(word)?;
         rest = behind;
     }
+    Ok(Some(words))
+}
+
+/// The words of the LEXICON section, of which there is one at least.
+fn words_of(alloc: Global, section: &[Lexeme]) -> Result<Option<Vec<Entry>>, AllocError>
+    ensures { IfOk result (λ o. Found (λ v. map entry_view v.items) (IsFilled (codes "LEXICON") (IsEnded IsEntry) section.now) o) }
+{
+    let Some(entries) = entries_in("LEXICON", section) else {
+        return Ok(None);
+    };
+    let Some(words) = words_in(alloc, entries)? else {
+        return Ok(None);
+    };
     if words.is_empty() {
         Ok(None)
     } else {
