@@ -1,6 +1,8 @@
 -- The places of rules, and what the program tests of them.
 use Rattle.std.specs.Prelude.{◌≡◌, ℕ, ◌+◌, ◌&&◌, Bool, true, false, cond, not, nat_lt, Option, Some, None, List, [], ◌∷◌}
 use Rattle.std.specs.List.{list_all}
+use Rattle.std.specs.Ordering.{is_eq}
+use Rattle.lfg_terms.specs.Order.{name_cmp}
 use Rattle.lfg_model.specs.Lists.{In, Once}
 use Rattle.lfg_model.specs.Terms.{Name}
 use Rattle.lfg_model.specs.Thin.{empty_item}
@@ -20,7 +22,7 @@ next_place (Some n) = Some (n + 1)
 -- the first place at which the name stands, from 0
 abbrev pub place_of : Name → List Name → Option ℕ
 place_of name [] = None
-place_of name (x ∷ xs) = cond (same name x) (Some 0) (next_place (place_of name xs))
+place_of name (x ∷ xs) = cond (is_eq (name_cmp x name)) (Some 0) (next_place (place_of name xs))
 
 -- the place is behind this one, if there is one
 abbrev pub is_behind : ℕ → Option ℕ → Bool

@@ -32,7 +32,12 @@ fn heads_of(
     let mut heads = BTreeMap::new(alloc);
     for i in 0..phrases.len() {
         let cat = &phrases[i].cat;
-        if is_empty_item(cat) || heads.insert(cat.clone()?, i)?.is_some() {
+        if is_empty_item(cat) {
+            return Ok(None);
+        }
+        let head = cat.clone()?;
+        let other = heads.insert(head, i)?;
+        if other.is_some() {
             return Ok(None);
         }
     }
@@ -52,12 +57,23 @@ fn is_later(heads: &BTreeMap<Name, usize>, place: usize, daughter: &Daughter) ->
     }
 }
 
+/// Whether all these daughters of the rule at this place are so.
+fn daughters_are_later(
+    heads: &BTreeMap<Name, usize>,
+    place: usize,
+    daughters: &[Daughter],
+) -> bool
+    ensures { result ≡ list_all (λ x. is_later (get name_cmp heads.now) place x.cat) daughters.now }
+{
+    daughters.iter().all(|daughter| is_later(heads, place, daughter))
+}
+
 /// Whether each daughter that heads a rule heads a later one than its mother's, and none is `e`.
 fn are_later(heads: &BTreeMap<Name, usize>, phrases: &[Phrase]) -> bool
     ensures { result ≡ are_later (get name_cmp heads.now) 0 phrases.now }
 {
     for i in 0..phrases.len() {
-        if !phrases[i].daughters.iter().all(|daughter| is_later(heads, i, daughter)) {
+        if !daughters_are_later(heads, i, &phrases[i].daughters) {
             return false;
         }
     }
@@ -77,7 +93,9 @@ fn have_own_forms(alloc: Global, entries: &[Entry]) -> Result<bool, AllocError>
 {
     let mut forms = BTreeSet::new(alloc);
     for entry in entries {
-        if !forms.insert(entry.form.clone()?)? {
+        let form = entry.form.clone()?;
+        let added = forms.insert(form)?;
+        if !added {
             return Ok(false);
         }
     }

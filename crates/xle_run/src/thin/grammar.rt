@@ -1,8 +1,8 @@
 ghost use Rattle.std.specs.Prelude.{◌≡◌, ◌++◌, ◌∷◌, [], IfOk, OnOk, None, map};
+ghost use Rattle.std.specs.List.{flat_map};
 ghost use Rattle.lfg_terms.specs.Order.{name_cmp};
-ghost use Rattle.lfg_terms.specs.declared.grammar.Schema as term;
 ghost use Rattle.lfg_model.specs.Lists.{Lists};
-ghost use Rattle.lfg_model.specs.Thin.{Gives, IsCategory, item_of, lex_of_entry, link, one_string, row_graph, rule_of_phrase, schema_of_equation};
+ghost use Rattle.lfg_model.specs.Thin.{Gives, IsCategory, item_of, last_of, lex_of_entry, link, next_from, one_string, row_graph, rule_of_phrase, schema_of_equation};
 ghost use Rattle.xle_run.specs.Drafts.{daughter_view, draft_view, entry_view, equation_view, phrase_view};
 ghost use Rattle.xle_run.specs.Categories.{phrase_cats, all_cats};
 
@@ -68,24 +68,47 @@ fn items_of(alloc: Global, daughters: &[Daughter]) -> Result<Vec<Item>, AllocErr
     Ok(items)
 }
 
+/// For each of so many items in a row the items that may follow it: the next one alone.
+fn next_lists(alloc: Global, size: u32) -> Result<Vec<List<u32>>, AllocError>
+    ensures { IfOk result (λ v. v.items ≡ next_from 1 size) }
+{
+    let mut next = Vec::new(alloc);
+    if size == 0 {
+        return Ok(next);
+    }
+    for number in 1..size {
+        next.push(List::new(alloc, vec![in alloc; number + 1]?)?)?;
+    }
+    next.push(List::new(alloc, Vec::new(alloc))?)?;
+    Ok(next)
+}
+
+/// For each of so many items in a row whether it may end the row: the last one may.
+fn last_flags(alloc: Global, size: u32) -> Result<Vec<bool>, AllocError>
+    ensures { IfOk result (λ v. v.items ≡ last_of size) }
+{
+    let mut last = Vec::new(alloc);
+    if size == 0 {
+        return Ok(last);
+    }
+    for _number in 1..size {
+        last.push(false)?;
+    }
+    last.push(true)?;
+    Ok(last)
+}
+
 /// The graph of so many items in a row, numbered from 1. More than a `u32` can number are taken for
 /// more than the memory holds.
+#[tactic(auto, unfolding(lfg_model::specs::Thin::row_graph))]
 fn row_graph(alloc: Global, size: usize) -> Result<Graph, AllocError>
     ensures { IfOk result (λ g. g ≡ row_graph size) }
 {
     let Ok(size) = u32::try_from(size) else {
         return Err(AllocError);
     };
-    let mut next = Vec::new(alloc);
-    let mut last = Vec::new(alloc);
-    for number in 1..size {
-        next.push(List::new(alloc, vec![in alloc; number + 1]?)?)?;
-        last.push(false)?;
-    }
-    if size > 0 {
-        next.push(List::new(alloc, Vec::new(alloc))?)?;
-        last.push(true)?;
-    }
+    let next = next_lists(alloc, size)?;
+    let last = last_flags(alloc, size)?;
     Ok(Graph {
         size,
         first: List::new(alloc, vec![in alloc; 1u32]?)?,
@@ -189,17 +212,33 @@ fn push_phrase(cats: &mut Vec<Name>, phrase: &Phrase) -> Result<(), AllocError>
     Ok(())
 }
 
+/// Appends the categories of phrases and of their daughters.
+fn push_phrases(cats: &mut Vec<Name>, phrases: &[Phrase]) -> Result<(), AllocError>
+    ensures { OnOk result (cats.new.items ≡ cats.old.items ++ flat_map phrase_cats (map phrase_view phrases.now)) }
+{
+    for phrase in phrases {
+        push_phrase(cats, phrase)?;
+    }
+    Ok(())
+}
+
+/// Appends the categories of words.
+fn push_words(cats: &mut Vec<Name>, entries: &[Entry]) -> Result<(), AllocError>
+    ensures { OnOk result (cats.new.items ≡ cats.old.items ++ map (λ x. x.cat) (map entry_view entries.now)) }
+{
+    for entry in entries {
+        cats.push(entry.cat.clone()?)?;
+    }
+    Ok(())
+}
+
 /// The categories of the draft as they come.
 fn all_cats(alloc: Global, draft: &Draft) -> Result<Vec<Name>, AllocError>
     ensures { IfOk result (λ v. v.items ≡ all_cats (draft_view draft.now)) }
 {
     let mut cats = vec![in alloc; draft.root.clone()?]?;
-    for phrase in &draft.phrases {
-        push_phrase(&mut cats, phrase)?;
-    }
-    for entry in &draft.entries {
-        cats.push(entry.cat.clone()?)?;
-    }
+    push_phrases(&mut cats, &draft.phrases)?;
+    push_words(&mut cats, &draft.entries)?;
     Ok(cats)
 }
 
