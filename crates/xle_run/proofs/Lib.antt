@@ -1,7 +1,9 @@
 pub mod AllCategories
+pub mod Consistency
 pub mod Cutting
 pub mod Forms
 pub mod Graphs
+pub mod HeadSteps
 pub mod Places
 pub mod PlacesOf
 pub mod Rows

@@ -48,6 +48,7 @@ unplaced false (Some m) e = cc
 
 -- a name without a place stands nowhere
 pub not_in : (name : Name) (xs : List Name) → place_of name xs ≡ None → In name xs → ⊥
+not_in name [] e r = elim r [ ]
 not_in name (x ∷ xs) e here = false≢true (sym (unplaced (is_eq (name_cmp name name)) (place_of name xs) e).0 ∙ test_same name)
 not_in name (x ∷ xs) e (later r) = not_in name xs (unplaced (is_eq (name_cmp x name)) (place_of name xs) e).1 r
 
@@ -81,33 +82,33 @@ pub once_more : {X : Type 0} (xs : List X) (i : ℕ) (x : X) → Once (take i xs
 once_more {X} xs i x o l e new =
     subst (λ (us : List X). Once us) (sym (take_more xs i x l ∙ ap (λ (z : X). take i xs ++ z ∷ []) (sym e))) (Once-push (take i xs) x o new)
 
+place_behind : (x : Name) (xs : List Name) (j : ℕ) (name : Name) → (In x xs → ⊥) → place_of name xs ≡ Some j → (b : Bool) → is_eq (name_cmp x name) ≡ b → cond b (Some 0) (next_place (place_of name xs)) ≡ Some (suc j)
+place_behind x xs j name new found true t = absurd (new (subst (λ (y : Name). In y xs) (sym (name_from_test x name t)) (In_from_place name xs j found)))
+place_behind x xs j name new found false t = ap next_place found ∙ ap (λ (n : ℕ). Some n) (let s : j + 1 ≡ suc j = omega arith in s)
+
+place_cond : (x : Name) (xs : List Name) (j : ℕ) (name : Name) → (In x xs → ⊥) → place_of name xs ≡ Some j → place_of name (x ∷ xs) ≡ Some (suc j)
+place_cond x xs j name new found = place_behind x xs j name new found (is_eq (name_cmp x name)) refl
+
 -- where no name stands twice, its place is the one at which it stands
 pub place_at : (xs : List Name) (j : ℕ) (name : Name) → Once xs → slice_get xs j ≡ Some name → place_of name xs ≡ Some j
 place_at [] j name o e = cc
 place_at (x ∷ xs) zero name o e =
     let same : x ≡ name = cc in
     ap (λ (b : Bool). cond b (Some 0) (next_place (place_of name xs))) (subst (λ (y : Name). is_eq (name_cmp x y) ≡ true) same (test_same x))
-place_at (x ∷ xs) (suc j) name (more new o) e =
-    at_other (is_eq (name_cmp x name)) refl
-  where
-    found : In name xs
-    found = In_from_place name xs j (place_at xs j name o e)
+place_at (x ∷ xs) (suc j) name (more new o) e = place_cond x xs j name new (place_at xs j name o e)
 
-    at_other : (b : Bool) → is_eq (name_cmp x name) ≡ b → cond b (Some 0) (next_place (place_of name xs)) ≡ Some (suc j)
-    at_other true t = absurd (new (subst (λ (y : Name). In y xs) (sym (name_from_test x name t)) found))
-    at_other false t = ap next_place (place_at xs j name o e) ∙ ap (λ (n : ℕ). Some n) (let s : j + 1 ≡ suc j = omega arith in s)
+got_behind : (x : Name) (xs : List Name) (j : ℕ) (name : Name) → ((m : ℕ) → place_of name xs ≡ Some m → slice_get xs m ≡ Some name) → (o : Option ℕ) → place_of name xs ≡ o → next_place o ≡ Some j → slice_get (x ∷ xs) j ≡ Some name
+got_behind x xs j name go None s h = cc
+got_behind x xs j name go (Some m) s h =
+    let p : m + 1 ≡ j = cc in
+    let up : suc m ≡ j = omega arith in
+    subst (λ (n : ℕ). slice_get (x ∷ xs) n ≡ Some name) up (go m s)
+
+got_at : (x : Name) (xs : List Name) (j : ℕ) (name : Name) → ((m : ℕ) → place_of name xs ≡ Some m → slice_get xs m ≡ Some name) → (b : Bool) → is_eq (name_cmp x name) ≡ b → cond b (Some 0) (next_place (place_of name xs)) ≡ Some j → slice_get (x ∷ xs) j ≡ Some name
+got_at x xs j name go true t h = let z : 0 ≡ j = cc in subst (λ (n : ℕ). slice_get (x ∷ xs) n ≡ Some name) z (ap (λ (y : Name). Some y) (name_from_test x name t))
+got_at x xs j name go false t h = got_behind x xs j name go (place_of name xs) refl h
 
 -- and what stands at its place is the name
 pub get_at_place : (xs : List Name) (j : ℕ) (name : Name) → place_of name xs ≡ Some j → slice_get xs j ≡ Some name
 get_at_place [] j name e = cc
-get_at_place (x ∷ xs) j name e = go (is_eq (name_cmp x name)) refl e
-  where
-    behind : (o : Option ℕ) → place_of name xs ≡ o → next_place o ≡ Some j → slice_get (x ∷ xs) j ≡ Some name
-    behind None s h = cc
-    behind (Some m) s h =
-        let up : suc m ≡ j = (let p : m + 1 ≡ j = cc in omega arith) in
-        subst (λ (n : ℕ). slice_get (x ∷ xs) n ≡ Some name) up (get_at_place xs m name s)
-
-    go : (b : Bool) → is_eq (name_cmp x name) ≡ b → cond b (Some 0) (next_place (place_of name xs)) ≡ Some j → slice_get (x ∷ xs) j ≡ Some name
-    go true t h = let z : 0 ≡ j = cc in subst (λ (n : ℕ). slice_get (x ∷ xs) n ≡ Some name) z (ap (λ (y : Name). Some y) (name_from_test x name t))
-    go false t h = behind (place_of name xs) refl h
+get_at_place (x ∷ xs) j name e = got_at x xs j name (λ m s. get_at_place xs m name s) (is_eq (name_cmp x name)) refl e

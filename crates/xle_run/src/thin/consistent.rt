@@ -110,10 +110,13 @@ pub(crate) fn is_consistent(alloc: Global, draft: &Draft) -> Result<bool, AllocE
     let Some(heads) = heads_of(alloc, &draft.phrases)? else {
         return Ok(false);
     };
-    if is_empty_item(&draft.root)
-        || !are_later(&heads, &draft.phrases)
-        || !are_apart(&heads, &draft.entries)
-    {
+    if is_empty_item(&draft.root) {
+        return Ok(false);
+    }
+    if !are_later(&heads, &draft.phrases) {
+        return Ok(false);
+    }
+    if !are_apart(&heads, &draft.entries) {
         return Ok(false);
     }
     have_own_forms(alloc, &draft.entries)
