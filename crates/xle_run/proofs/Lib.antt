@@ -1,4 +1,5 @@
 pub mod AllCategories
+pub mod AsciiBytes
 pub mod Consistency
 pub mod Cutting
 pub mod Forms

@@ -1,4 +1,5 @@
 ghost use Rattle.std.specs.Prelude.{◌≡◌, IfOk, MatchOption};
+ghost use Rattle.std.specs.List.{list_all};
 ghost use Rattle.lfg_terms.specs.declared.grammar.Grammar.{Grammar};
 ghost use Rattle.lfg_model.specs.ThinText.{is_thin_byte, ThinFile};
 
@@ -22,6 +23,13 @@ fn is_thin_byte(byte: u8) -> bool
     byte == b'\n' || (matches!(byte, b' '..=b'~') && byte != b'"' && byte != b'`')
 }
 
+/// Whether all bytes are such.
+fn has_thin_bytes(bytes: &[u8]) -> bool
+    ensures { result ≡ list_all is_thin_byte bytes.now }
+{
+    bytes.iter().all(|byte| is_thin_byte(*byte))
+}
+
 /// The grammar of a thin file, or `None` where the file is not thin.
 ///
 /// # Errors
@@ -30,7 +38,7 @@ fn is_thin_byte(byte: u8) -> bool
 pub(crate) fn thin_grammar(alloc: Global, bytes: &[u8]) -> Result<Option<Grammar>, AllocError>
     ensures { IfOk result (λ o. MatchOption o ((g : Grammar) → ¬ ThinFile bytes.now g) (ThinFile bytes.now)) }
 {
-    if bytes.len() > LONGEST || !bytes.iter().all(|byte| is_thin_byte(*byte)) {
+    if bytes.len() > LONGEST || !has_thin_bytes(bytes) {
         return Ok(None);
     }
     let Ok(text) = str::from_utf8(bytes) else {
