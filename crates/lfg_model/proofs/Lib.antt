@@ -16,3 +16,4 @@ pub mod RoundLaws
 pub mod Settling
 pub mod SolutionLaws
 pub mod SymbolRule
+pub mod ThinLaws

@@ -15,7 +15,7 @@ use Rattle.lfg_model.specs.declared.lexeme.Lexeme.TheVariants.{Word, Open, Close
 use Rattle.lfg_model.specs.Lists.{In}
 use Rattle.lfg_model.specs.Terms.{Name}
 use Rattle.lfg_model.specs.Tokens.{Tokens}
-use Rattle.lfg_model.specs.Thin.{Daughter, Phrase, Equation, Entry, Draft, IsConsistent, Gives}
+use Rattle.lfg_model.specs.Thin.{Daughter, Phrase, Equation, Entry, Draft, IsConsistent, Gives, IsThinGrammar}
 
 -- the two texts are the same
 abbrev pub same : Name → Name → Bool
@@ -300,3 +300,7 @@ token_of word = record { text = word; forms = word ∷ [] }
 -- Law: a file gives one grammar at most.
 abbrev pub OneThinGrammar : Type 0
 OneThinGrammar = (bytes : List ℕ) (g h : Grammar) → ThinFile bytes g → ThinFile bytes h → g ≡ h
+
+-- Law: the grammar of a thin file is thin: each of its rules has a daughter.
+abbrev pub ThinFilesAreThin : Type 0
+ThinFilesAreThin = (bytes : List ℕ) (g : Grammar) → ThinFile bytes g → IsThinGrammar g

@@ -6,6 +6,7 @@ ghost use Rattle.lfg_model.specs.Lists.{SetsOfFactsAreOne};
 ghost use Rattle.lfg_model.specs.Readings.{ReadingsAreOne};
 ghost use Rattle.lfg_model.specs.Rounds.{GrowingRoundsSettle, RoundsGiveEqual};
 ghost use Rattle.lfg_model.specs.Solve.{RoundsGiveSolution};
+ghost use Rattle.lfg_model.specs.ThinText.{OneThinGrammar, ThinFilesAreThin};
 
 /// Two lists of facts in ascending order that have the same facts are equal.
 pub fn sets_of_facts_are_one()
@@ -55,5 +56,12 @@ pub fn sets_without_pred_are_exempt()
 /// A negated constraint holds exactly where the plain one does not.
 pub fn negated_where_plain_fails()
     ensures { NegatedWherePlainFails }
+{
+}
+
+/// A text is a thin grammar file of one grammar at most, and that grammar is thin.
+pub fn thin_files_have_one_grammar()
+    ensures one { OneThinGrammar }
+    ensures thin { ThinFilesAreThin }
 {
 }

@@ -11,10 +11,10 @@ and_parts true true e = (refl, refl)
 and_parts true false e = cc
 and_parts false b e = cc
 
-passes_at : (t : ℕ → Bool) (bs : List ℕ) (k : ℕ) → list_all t bs ≡ true → k < length bs → t (get_or bs k 0) ≡ true
-passes_at t [] k e l = absurd (let no : ⊥ = omega arith in no)
-passes_at t (b ∷ bs) zero e l = (and_parts (t b) (list_all t bs) e).0
-passes_at t (b ∷ bs) (suc k) e l = passes_at t bs k (and_parts (t b) (list_all t bs) e).1 (omega arith)
+below : (t : ℕ → Bool) → ((b : ℕ) → t b ≡ true → b < 128) → (bs : List ℕ) (k : ℕ) → list_all t bs ≡ true → get_or bs k 0 < 128
+below t ascii [] k e = omega arith
+below t ascii (b ∷ bs) zero e = ascii b (and_parts (t b) (list_all t bs) e).0
+below t ascii (b ∷ bs) (suc k) e = below t ascii bs k (and_parts (t b) (list_all t bs) e).1
 
 thin_is_ascii : (b : ℕ) → is_thin_byte b ≡ true → b < 128
 thin_is_ascii b e = grind (arith, nat_tests)
@@ -23,7 +23,7 @@ sentence_is_ascii : (b : ℕ) → is_sentence_byte b ≡ true → b < 128
 sentence_is_ascii b e = grind (arith, nat_tests)
 
 pub thin_utf8 : (bs : List ℕ) → list_all is_thin_byte bs ≡ true → IsUtf8 bs
-thin_utf8 bs e = IsUtf8-from_ascii bs (λ k l. thin_is_ascii (get_or bs k 0) (passes_at is_thin_byte bs k e l))
+thin_utf8 bs e = IsUtf8-from_ascii bs (λ k. below is_thin_byte thin_is_ascii bs k e)
 
 pub sentence_utf8 : (bs : List ℕ) → list_all is_sentence_byte bs ≡ true → IsUtf8 bs
-sentence_utf8 bs e = IsUtf8-from_ascii bs (λ k l. sentence_is_ascii (get_or bs k 0) (passes_at is_sentence_byte bs k e l))
+sentence_utf8 bs e = IsUtf8-from_ascii bs (λ k. below is_sentence_byte sentence_is_ascii bs k e)
