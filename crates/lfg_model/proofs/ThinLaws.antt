@@ -40,7 +40,7 @@ phrase_once : (ls : List Lexeme) (p q : Phrase) → IsPhrase ls p → IsPhrase l
 phrase_once ls p q r s =
     let h = read_once (behind_arrow ls) p.cat q.cat r.items s.items r.head s.head in
     let d : p.daughters ≡ q.daughters = row_once is_nothing IsDaughter (λ us x y b c e f. read_once (daughter_at us) x y b c e f) r.items p.daughters q.daughters r.row
-        (subst (λ (us : List Lexeme). Row is_nothing IsDaughter us q.daughters) (sym h.1) s.row) in
+    (subst (λ (us : List Lexeme). Row is_nothing IsDaughter us q.daughters) (sym h.1) s.row) in
     let c : p.cat ≡ q.cat = h.0 in
     λ i. record { cat = c i; daughters = d i }
 
@@ -48,7 +48,7 @@ entry_once : (ls : List Lexeme) (x y : Entry) → IsEntry ls x → IsEntry ls y 
 entry_once ls x y r s =
     let h = read_once (behind_star ls) (record { form = x.form; cat = x.cat }) (record { form = y.form; cat = y.cat }) r.equations s.equations r.head s.head in
     let d : x.equations ≡ y.equations = row_once is_entry_end IsEquation (λ us u v b c e f. read_once (equation_at us) u v b c e f) r.equations x.equations y.equations r.row
-        (subst (λ (us : List Lexeme). Row is_entry_end IsEquation us y.equations) (sym h.1) s.row) in
+    (subst (λ (us : List Lexeme). Row is_entry_end IsEquation us y.equations) (sym h.1) s.row) in
     let f : x.form ≡ y.form = ap (λ (k : Heading). k.form) h.0 in
     let c : x.cat ≡ y.cat = ap (λ (k : Heading). k.cat) h.0 in
     λ i. record { form = f i; cat = c i; equations = d i }
@@ -86,9 +86,9 @@ says_once ls d e r s =
     let same = sections_once ls r.config r.rules r.lexicon s.config s.rules s.lexicon r.sections s.sections in
     let root : d.root ≡ e.root = config_once s.config d.root e.root (subst (λ (us : List Lexeme). IsConfig us d.root) same.config r.root) s.root in
     let phrases : d.phrases ≡ e.phrases =
-        filled_once _ (IsEnded IsPhrase) (ended_once IsPhrase phrase_once) s.rules d.phrases e.phrases (subst (λ (us : List Lexeme). IsFilled _ (IsEnded IsPhrase) us d.phrases) same.rules r.phrases) s.phrases in
+    filled_once _ (IsEnded IsPhrase) (ended_once IsPhrase phrase_once) s.rules d.phrases e.phrases (subst (λ (us : List Lexeme). IsFilled _ (IsEnded IsPhrase) us d.phrases) same.rules r.phrases) s.phrases in
     let entries : d.entries ≡ e.entries =
-        filled_once _ (IsEnded IsEntry) (ended_once IsEntry entry_once) s.lexicon d.entries e.entries (subst (λ (us : List Lexeme). IsFilled _ (IsEnded IsEntry) us d.entries) same.lexicon r.entries) s.entries in
+    filled_once _ (IsEnded IsEntry) (ended_once IsEntry entry_once) s.lexicon d.entries e.entries (subst (λ (us : List Lexeme). IsFilled _ (IsEnded IsEntry) us d.entries) same.lexicon r.entries) s.entries in
     λ i. record { root = root i; phrases = phrases i; entries = entries i }
 
 -- a draft gives one grammar

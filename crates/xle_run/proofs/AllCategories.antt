@@ -24,7 +24,7 @@ pub flat_more : {X Y : Type 0} (f : X → Y) (h : Y → List Name) (xs : List X)
 flat_more {X} {Y} f h xs i x start old new l e had grew =
     grew ∙ ap (λ (us : List Name). us ++ h (f x)) had ∙ append_assoc start (flat_map h (map f (take i xs))) (h (f x))
     ∙ ap (λ (us : List Name). start ++ us)
-      (sym (ap (flat_map h) (mapped_more f xs i x l e) ∙ flat_map-append h (map f (take i xs)) (f x ∷ []) ∙ ap (λ (us : List Name). flat_map h (map f (take i xs)) ++ us) (append-nil (h (f x)))))
+    (sym (ap (flat_map h) (mapped_more f xs i x l e) ∙ flat_map-append h (map f (take i xs)) (f x ∷ []) ∙ ap (λ (us : List Name). flat_map h (map f (take i xs)) ++ us) (append-nil (h (f x)))))
 
 -- one more category behind others
 pub cat_more : {X Y : Type 0} (f : X → Y) (h : Y → Name) (xs : List X) (i : ℕ) (x : X) (start old new : List Name) (z : Name) → i < length xs → x ≡ get_or xs i x → old ≡ start ++ map h (map f (take i xs)) → z ≡ h (f x) → new ≡ old ++ z ∷ []
@@ -44,8 +44,9 @@ phrase_cat d p cat i (later r) = daughter i r
 from_cats : (d : Draft) (cat : Name) → In cat (all_cats d) → IsCategory d cat
 from_cats d cat here = root refl
 from_cats d cat (later r) = elim (In-append_cases (flat_map phrase_cats d.phrases) (map (λ (x : thin.Entry). x.cat) d.entries) r) [
-    inl s ↦ let f = In_from_flat_map phrase_cats d.phrases s in phrase_cat d f.0 cat f.1 f.2
-  | inr s ↦ of_word s ]
+  | inl s ↦ let f = In_from_flat_map phrase_cats d.phrases s in phrase_cat d f.0 cat f.1 f.2
+  | inr s ↦ of_word s
+]
 
 to_cats : (d : Draft) (cat : Name) → IsCategory d cat → In cat (all_cats d)
 to_cats d cat (root e) = subst (λ (c : Name). In c (all_cats d)) (sym e) here

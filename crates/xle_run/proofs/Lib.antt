@@ -2,6 +2,7 @@ pub mod AllCategories
 pub mod AsciiBytes
 pub mod Consistency
 pub mod Cutting
+pub mod FileSteps
 pub mod Forms
 pub mod Graphs
 pub mod HeadSteps

@@ -21,10 +21,7 @@ fn is_empty_item(cat: &Name) -> bool
 }
 
 /// The place of each category's rule, or `None` where a category heads two, or `e` heads one.
-fn heads_of(
-    alloc: Global,
-    phrases: &[Phrase],
-) -> Result<Option<BTreeMap<Name, usize>>, AllocError>
+fn heads_of(alloc: Global, phrases: &[Phrase]) -> Result<Option<BTreeMap<Name, usize>>, AllocError>
     ensures refused { IfOk result (λ o. IfNone o (¬ HaveOwnRules (map (λ p. p.cat) phrases.now))) }
     ensures accepted { IfOk result (λ o. IfSome o (λ heads. HaveOwnRules (map (λ p. p.cat) phrases.now))) }
     ensures places { IfOk result (λ o. IfSome o (λ heads. (cat : List ℕ) → get name_cmp heads cat ≡ place_of cat (map (λ p. p.cat) phrases.now))) }
@@ -58,14 +55,12 @@ fn is_later(heads: &BTreeMap<Name, usize>, place: usize, daughter: &Daughter) ->
 }
 
 /// Whether all these daughters of the rule at this place are so.
-fn daughters_are_later(
-    heads: &BTreeMap<Name, usize>,
-    place: usize,
-    daughters: &[Daughter],
-) -> bool
+fn daughters_are_later(heads: &BTreeMap<Name, usize>, place: usize, daughters: &[Daughter]) -> bool
     ensures { result ≡ list_all (λ x. is_later (get name_cmp heads.now) place x.cat) daughters.now }
 {
-    daughters.iter().all(|daughter| is_later(heads, place, daughter))
+    daughters
+        .iter()
+        .all(|daughter| is_later(heads, place, daughter))
 }
 
 /// Whether each daughter that heads a rule heads a later one than its mother's, and none is `e`.

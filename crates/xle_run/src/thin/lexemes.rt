@@ -48,10 +48,7 @@ fn lexeme_of(token: &Token) -> Result<Option<Lexeme>, AllocError>
 }
 
 /// The lexemes of the tokens, if a thin grammar file may have them all.
-pub(crate) fn lexemes_of(
-    alloc: Global,
-    tokens: &[Token],
-) -> Result<Option<Vec<Lexeme>>, AllocError>
+pub(crate) fn lexemes_of(alloc: Global, tokens: &[Token]) -> Result<Option<Vec<Lexeme>>, AllocError>
     ensures { IfOk result (λ o. option_map (λ v. v.items) o ≡ lexemes_of tokens.now) }
 {
     let mut lexemes = Vec::new(alloc);

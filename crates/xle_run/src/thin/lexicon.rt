@@ -24,10 +24,7 @@ fn names_at(alloc: Global, lexemes: &[Lexeme]) -> Result<(Vec<Name>, &[Lexeme]),
 }
 
 /// The equation of these names with `)=NAME` behind them, and what is behind it.
-fn value_at(
-    path: Vec<Name>,
-    rest: &[Lexeme],
-) -> Result<Option<(Equation, &[Lexeme])>, AllocError>
+fn value_at(path: Vec<Name>, rest: &[Lexeme]) -> Result<Option<(Equation, &[Lexeme])>, AllocError>
     ensures read { IfOk result (λ o. Reads (λ x behind. (equation_view x, behind.now)) o (value_at (named path.items rest.now))) }
     ensures shorter { IfOk result (λ o. IfSome o (λ x. length x.1.now < length rest.now)) }
 {

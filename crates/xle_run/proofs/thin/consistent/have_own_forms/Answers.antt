@@ -38,7 +38,8 @@ pub returns-then-not-added : goal.returns-then-not-added
 returns-then-not-added c =
     let x = c.entry-item.result in
     let h : c.in_ok-form.form ≡ x.form = c.in_ok-form.ensures.cases in
-    let a : false ≡ not (contains name_cmp c.loop-entry.forms c.in_ok-form.form) = sym c.if-not-added.true ∙ c.in_ok-added.ensures.added in
-    (λ t. absurd (false≢true t),
-     λ once. absurd (second_form (map form_of c.args.entries.now) c.loop-entry.entry-index x.form (in_forms c.args.entries.now c.loop-entry.entry-index c.loop-entry-test.true)
-         (read_map form_of c.args.entries.now c.loop-entry.entry-index x c.loop-entry-test.true c.entry-item.is) (contains name_cmp c.loop-entry.forms) c.in_ok-form.form h c.loop-entry.invariant.held a once))
+    let a : false ≡ not (contains name_cmp c.loop-entry.forms c.in_ok-form.form) = sym c.if-not-added.true ∙ c.in_ok-added.ensures.added in (
+      λ t. absurd (false≢true t),
+      λ once. absurd (second_form (map form_of c.args.entries.now) c.loop-entry.entry-index x.form (in_forms c.args.entries.now c.loop-entry.entry-index c.loop-entry-test.true)
+          (read_map form_of c.args.entries.now c.loop-entry.entry-index x c.loop-entry-test.true c.entry-item.is) (contains name_cmp c.loop-entry.forms) c.in_ok-form.form h c.loop-entry.invariant.held a once),
+    )

@@ -44,4 +44,4 @@ returns-then-is_some-clause-refused c =
     let h : c.in_ok-head.head ≡ p.cat = (let e : c.in_ok-head.head ≡ (get_or c.args.phrases.now c.loop-i.i p).cat = c.in_ok-head.ensures.cases in e ∙ ap cat_of (sym c.index-phrases-i.is)) in
     let s : is_some c.in_ok-other.other ≡ true = sym c.if-is_some.ensures in
     λ own. second_head (map cat_of c.args.phrases.now) c.loop-i.i p.cat (in_cats c.args.phrases.now c.loop-i.i c.loop-i-test.true) (read_map cat_of c.args.phrases.now c.loop-i.i p c.loop-i-test.true c.index-phrases-i.is)
-        (get name_cmp c.loop-i.heads) c.in_ok-other.other c.in_ok-head.head h c.loop-i.invariant.places c.in_ok-other.ensures.old s own.once
+    (get name_cmp c.loop-i.heads) c.in_ok-other.other c.in_ok-head.head h c.loop-i.invariant.places c.in_ok-other.ensures.old s own.once
