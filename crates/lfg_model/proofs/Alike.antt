@@ -87,9 +87,9 @@ module _ (y z : Solution) (e : AreAlike y z) where
   coherent_alike : (governable : List Name) → IsCoherent y governable → IsCoherent z governable
   coherent_alike governable c = record {
     each = λ x t g i h. elim (c.each x t g i ((e.arc x g t).1 h)) [
-      | inl f ↦ inl (f.0, form_alike y z e x f.0 f.1, f.2)
+        inl f ↦ inl (f.0, form_alike y z e x f.0 f.1, f.2)
       | inr s ↦ inr (set_alike y z e x s.0, λ p. s.1 (pred_alike z y turned x p))
-    ];
+      ];
   }
 
   pub well_formed_alike : (governable : List Name) (cs : List Check) → IsWellFormed y governable cs → IsWellFormed z governable cs

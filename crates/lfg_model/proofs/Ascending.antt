@@ -60,8 +60,8 @@ tied cmp ties x y t = go (cmp x y) refl t
 
 -- what a sort and then a dedup leave, where what the order does not tell apart is equal
 pub sorted_set : {X : Type 0} {cmp : X → X → Ordering} → IsTotalOrder cmp → ((x y : X) → cmp x y ≡ Equal → x ≡ y)
-    → (test : X → X → Bool) → ((x y : X) → test x y ≡ eq_by_cmp cmp x y)
-    → (xs ys zs : List X) → IsPermutation xs ys → IsSorted cmp ys → zs ≡ dedup test ys → Lists cmp (λ x. In x xs) zs
+  → (test : X → X → Bool) → ((x y : X) → test x y ≡ eq_by_cmp cmp x y)
+  → (xs ys zs : List X) → IsPermutation xs ys → IsSorted cmp ys → zs ≡ dedup test ys → Lists cmp (λ x. In x xs) zs
 sorted_set {X} {cmp} total ties test by xs ys zs p s e = record {
   ascends = rw e (IsStrictlySortedBy-dedup total by ys s);
   exact = λ x. (

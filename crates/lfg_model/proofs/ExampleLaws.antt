@@ -54,9 +54,9 @@ only_arc n m u t a g i = let e = In-one i in (ap (λ r. r.0) e, ap (λ r. r.1) e
 alone : (e : Edge) (g v : Name) → ¬ IsCoherent (solution (one_function e g v)) (g ∷ [])
 unfolding AreAtoms
 alone e g v coherent = elim (coherent.each (root e) (attribute e g) g here by) [
-  | inl governed ↦ not_governed (one_function e g v) (λ n form site index. one_atom n (attribute e g) v form site index) (root e) g governed
+    inl governed ↦ not_governed (one_function e g v) (λ n form site index. one_atom n (attribute e g) v form site index) (root e) g governed
   | inr set ↦ no_member set.0.0 set.0.1
-]
+  ]
   where
     by : HasArc (one_function e g v) (root e) g (attribute e g)
     by = arc (itself here) here (itself (later here))

@@ -77,9 +77,9 @@ split_at (later {y} {xs} h) = let s = split_at h in (y ∷ s.0, s.1, ap (λ zs. 
 
 without : {X : Type 0} (x : X) (xs front back : List X) → (In x xs → ⊥) → ((z : X) → In z xs → In z (front ++ x ∷ back)) → (z : X) → In z xs → In z (front ++ back)
 without x xs front back n sub z h = elim (In-append_cases front (x ∷ back) (sub z h)) [
-  | inl a ↦ In-append_left back a
+    inl a ↦ In-append_left back a
   | inr b ↦ elim (In-cons_cases b) [ inl e ↦ absurd (n (rw e at h)) | inr c ↦ In-append_right front c ]
-]
+  ]
 
 -- elements that stand once, all of them in ys, are no more than ys
 pub length-le_from_Once : {X : Type 0} (xs ys : List X) → Once xs → ((z : X) → In z xs → In z ys) → length xs ≤ length ys
@@ -106,9 +106,9 @@ In-flat_map f (later {y = z} {xs} i) j = In-append_right (f z) (In-flat_map f i 
 pub In_from_flat_map : {X Y : Type 0} (f : X → List Y) (xs : List X) {y : Y} → In y (flat_map f xs) → (x : X) × In x xs × In y (f x)
 In_from_flat_map f [] h = elim h [ ]
 In_from_flat_map f (x ∷ xs) h = elim (In-append_cases (f x) (flat_map f xs) h) [
-  | inl a ↦ (x, here, a)
+    inl a ↦ (x, here, a)
   | inr b ↦ let r = In_from_flat_map f xs b in (r.0, later r.1, r.2)
-]
+  ]
 
 -- what std says of an index
 pub Contains_from_In : {X : Type 0} {x : X} {xs : List X} → In x xs → Contains xs x

@@ -43,7 +43,8 @@ arc_ends (node.At e p) x a t h =
     let s = In_from_map (λ s. (node.At e s.0, s.1, node.At e (s.0 ++ s.1 ∷ []))) (steps p) h in
     let ends = step_ends p s.0.0 s.0.1 s.1 in
     let first : node.At e s.0.0 ≡ x = ap (λ r. r.0) s.2 in
-    let last : node.At e (s.0.0 ++ s.0.1 ∷ []) ≡ t = ap (λ r. r.2) s.2 in (
+    let last : node.At e (s.0.0 ++ s.0.1 ∷ []) ≡ t = ap (λ r. r.2) s.2 in
+    (
       subst (λ (m : Node). In m (with_prefixes (node.At e p))) first (In-map (λ q. node.At e q) ends.0),
       subst (λ (m : Node). In m (with_prefixes (node.At e p))) last (In-map (λ q. node.At e q) ends.1),
     )

@@ -50,17 +50,17 @@ row_In : {X : Type 0} {x y z : X} (ys : List X) → In (x, y) (row z ys) → (x 
 unfolding row
 row_In [] h = In-nil h
 row_In {x = x} {y} {z} (w ∷ ys) h = elim (In-cons_cases h) [
-  | inl e ↦ (ap (λ r. r.0) e, rw (ap (λ r. r.1) e) here)
+    inl e ↦ (ap (λ r. r.0) e, rw (ap (λ r. r.1) e) here)
   | inr k ↦ let r = row_In ys k in (r.0, later r.1)
-]
+  ]
 
 pub square_In : {X : Type 0} {x y : X} (xs ys : List X) → In (x, y) (square xs ys) → In x xs × In y ys
 unfolding square
 square_In [] ys h = In-nil h
 square_In (z ∷ xs) ys h = elim (In-append_cases (row z ys) (square xs ys) h) [
-  | inl a ↦ let r = row_In ys a in (rw r.0 here, r.1)
+    inl a ↦ let r = row_In ys a in (rw r.0 here, r.1)
   | inr b ↦ let r = square_In xs ys b in (later r.0, r.1)
-]
+  ]
 
 -- ---- tests of lists
 
@@ -94,13 +94,14 @@ pub record Tells {X : Type 0} (test : X → X → Bool) : Type 0 where
 
 module _ {X A : Type 0} (eq : X → X → Bool) (same_attribute : A → A → Bool) (xt : Tells eq) (at : Tells same_attribute)
     (nodes : List X) (given : List (X × X)) (arcs : List (X × A × X)) (ok : AreBetween nodes given arcs) where
+
   abbrev first : X → X → Bool
   first x y = list_any (λ n. eq x n && eq y n) nodes || (list_any (λ p. eq x p.0 && eq y p.1) given || list_any (λ p. eq y p.0 && eq x p.1) given)
 
   -- what follows from a round that the test r tells
   abbrev next : (X → X → Bool) → X → X → Bool
   next r t u = r t u || (list_any (λ y. r t y && r y u) nodes
-      || list_any (λ p. list_any (λ q. same_attribute p.1 q.1 && (eq t p.2 && (eq u q.2 && r p.0 q.0))) arcs) arcs)
+    || list_any (λ p. list_any (λ q. same_attribute p.1 q.1 && (eq t p.2 && (eq u q.2 && r p.0 q.0))) arcs) arcs)
 
   abbrev tell : ℕ → X → X → Bool
   tell zero x y = first x y
@@ -111,8 +112,8 @@ module _ {X A : Type 0} (eq : X → X → Bool) (same_attribute : A → A → Bo
       let a : r t u ≡ s t u = e t u ht hu in
       let b : list_any (λ y. r t y && r y u) nodes ≡ list_any (λ y. s t y && s y u) nodes = any_agree _ _ nodes (λ y h i. e t y ht h i && e y u h hu i) in
       let c : list_any (λ p. list_any (λ q. same_attribute p.1 q.1 && (eq t p.2 && (eq u q.2 && r p.0 q.0))) arcs) arcs
-      ≡ list_any (λ p. list_any (λ q. same_attribute p.1 q.1 && (eq t p.2 && (eq u q.2 && s p.0 q.0))) arcs) arcs
-      = any_agree _ _ arcs (λ p h. any_agree _ _ arcs (λ q k i. same_attribute p.1 q.1 && (eq t p.2 && (eq u q.2 && e p.0 q.0 (ok.arc_ends p.0 p.1 p.2 h).0 (ok.arc_ends q.0 q.1 q.2 k).0 i)))) in
+            ≡ list_any (λ p. list_any (λ q. same_attribute p.1 q.1 && (eq t p.2 && (eq u q.2 && s p.0 q.0))) arcs) arcs
+        = any_agree _ _ arcs (λ p h. any_agree _ _ arcs (λ q k i. same_attribute p.1 q.1 && (eq t p.2 && (eq u q.2 && e p.0 q.0 (ok.arc_ends p.0 p.1 p.2 h).0 (ok.arc_ends q.0 q.1 q.2 k).0 i)))) in
       λ i. a i || (b i || c i)
 
   rising : (n m : ℕ) (x y : X) → tell n x y ≡ true → tell (n + m) x y ≡ true
@@ -121,17 +122,17 @@ module _ {X A : Type 0} (eq : X → X → Bool) (same_attribute : A → A → Bo
 
   sound : (k : ℕ) (x y : X) → tell k x y ≡ true → Round nodes given arcs k x y
   sound zero x y t = elim (or_cases _ _ t) [
-    | inl a ↦ let r = from_any (λ n. eq x n && eq y n) nodes a in let e = and_parts _ _ r.2 in
+      inl a ↦ let r = from_any (λ n. eq x n && eq y n) nodes a in let e = and_parts _ _ r.2 in
         inl (at_node x r.0 nodes (xt.told x r.0 e.0) r.1, xt.told x r.0 e.0 ∙ sym (xt.told y r.0 e.1))
     | inr b ↦ inr (elim (or_cases _ _ b) [
-      | inl c ↦ let r = from_any (λ p. eq x p.0 && eq y p.1) given c in let e = and_parts _ _ r.2 in inl (at_pair x r.0.0 y r.0.1 given (xt.told x r.0.0 e.0) (xt.told y r.0.1 e.1) r.1)
+        inl c ↦ let r = from_any (λ p. eq x p.0 && eq y p.1) given c in let e = and_parts _ _ r.2 in inl (at_pair x r.0.0 y r.0.1 given (xt.told x r.0.0 e.0) (xt.told y r.0.1 e.1) r.1)
       | inr d ↦ let r = from_any (λ p. eq y p.0 && eq x p.1) given d in let e = and_parts _ _ r.2 in inr (at_pair y r.0.0 x r.0.1 given (xt.told y r.0.0 e.0) (xt.told x r.0.1 e.1) r.1)
-    ])
-  ]
+      ])
+    ]
   sound (suc k) t u h = elim (or_cases _ _ h) [
-    | inl a ↦ inl (sound k t u a)
+      inl a ↦ inl (sound k t u a)
     | inr b ↦ inr (elim (or_cases _ _ b) [
-      | inl c ↦ let r = from_any (λ y. tell k t y && tell k y u) nodes c in let e = and_parts _ _ r.2 in inl (r.0, sound k t r.0 e.0, sound k r.0 u e.1)
+        inl c ↦ let r = from_any (λ y. tell k t y && tell k y u) nodes c in let e = and_parts _ _ r.2 in inl (r.0, sound k t r.0 e.0, sound k r.0 u e.1)
       | inr d ↦
           let p = from_any (λ p. list_any (λ q. same_attribute p.1 q.1 && (eq t p.2 && (eq u q.2 && tell k p.0 q.0))) arcs) arcs d in
           let q = from_any (λ q. same_attribute p.0.1 q.1 && (eq t p.0.2 && (eq u q.2 && tell k p.0.0 q.0))) arcs p.2 in
@@ -139,8 +140,8 @@ module _ {X A : Type 0} (eq : X → X → Bool) (same_attribute : A → A → Bo
           let f = and_parts _ _ e.1 in
           let g = and_parts _ _ f.1 in
           inr (p.0.0, q.0.0, p.0.1, sound k p.0.0 q.0.0 g.1, at_arc p.0.0 p.0.0 p.0.1 p.0.1 t p.0.2 arcs refl refl (xt.told t p.0.2 f.0) p.1, at_arc q.0.0 q.0.0 p.0.1 q.0.1 u q.0.2 arcs refl (at.told p.0.1 q.0.1 e.0) (xt.told u q.0.2 g.0) q.1)
-    ])
-  ]
+      ])
+    ]
 
   ends : {x y : X} → Equal nodes given arcs x y → In x nodes × In y nodes
   ends (itself i) = (i, i)
@@ -160,11 +161,9 @@ module _ {X A : Type 0} (eq : X → X → Bool) (same_attribute : A → A → Bo
       let t : tell (p.0 + q.0) y z ≡ true = rw (add_comm p.0 q.0) (rising q.0 p.0 y z q.1) in
       (suc (p.0 + q.0), or_right _ _ (or_left _ _ (any_from (λ w. tell (p.0 + q.0) x w && tell (p.0 + q.0) w z) (ends a).1 (and_from _ _ s t))))
   told (along {x} {y} {t} {u} {a} e i j) =
-      let p = told e in (
-        suc p.0,
-        or_right _ _ (or_right _ _ (any_from (λ c. list_any (λ d. same_attribute c.1 d.1 && (eq t c.2 && (eq u d.2 && tell p.0 c.0 d.0))) arcs) i
-            (any_from (λ d. same_attribute a d.1 && (eq t t && (eq u d.2 && tell p.0 x d.0))) j (and_from _ _ (at.itself a) (and_from _ _ (xt.itself t) (and_from _ _ (xt.itself u) p.1)))))),
-      )
+      let p = told e in
+      (suc p.0, or_right _ _ (or_right _ _ (any_from (λ c. list_any (λ d. same_attribute c.1 d.1 && (eq t c.2 && (eq u d.2 && tell p.0 c.0 d.0))) arcs) i
+        (any_from (λ d. same_attribute a d.1 && (eq t t && (eq u d.2 && tell p.0 x d.0))) j (and_from _ _ (at.itself a) (and_from _ _ (xt.itself t) (and_from _ _ (xt.itself u) p.1)))))))
 
   forced : (k : ℕ) {x y : X} → Round nodes given arcs k x y → Equal nodes given arcs x y
   forced zero {x} (inl p) = rw (← p.1) (itself p.0)
@@ -182,8 +181,8 @@ module _ {X A : Type 0} (eq : X → X → Bool) (same_attribute : A → A → Bo
   settled {x} {y} e =
       let k = told e in
       let t = settles (square nodes nodes) f (λ n p i h. or_left _ _ h)
-      (λ n agree p i. let s = square_In nodes nodes i in next_agree (tell (suc n)) (tell n) (λ v w hv hw. agree (v, w) (In-square hv hw)) p.0 p.1 s.0 s.1)
-      k.0 (x, y) (In-square (ends e).0 (ends e).1) k.1 in
+        (λ n agree p i. let s = square_In nodes nodes i in next_agree (tell (suc n)) (tell n) (λ v w hv hw. agree (v, w) (In-square hv hw)) p.0 p.1 s.0 s.1)
+        k.0 (x, y) (In-square (ends e).0 (ends e).1) k.1 in
       subst (λ (n : ℕ). tell n x y ≡ true) (length-square nodes nodes) t
 
   pub enough : {x y : X} → Equal nodes given arcs x y → Round nodes given arcs (length nodes * length nodes) x y
@@ -192,9 +191,9 @@ module _ {X A : Type 0} (eq : X → X → Bool) (same_attribute : A → A → Bo
   -- whether two nodes are equal is decided
   pub decided : (x y : X) → Equal nodes given arcs x y ⊎ (Equal nodes given arcs x y → ⊥)
   decided x y = elim (cases_Bool (tell (length nodes * length nodes) x y)) [
-    | inl t ↦ inl (forced _ (sound (length nodes * length nodes) x y t))
+      inl t ↦ inl (forced _ (sound (length nodes * length nodes) x y t))
     | inr t ↦ inr (λ e. false≢true (sym t ∙ settled e))
-  ]
+    ]
 
 -- ---- nodes and names
 
@@ -205,7 +204,6 @@ pub name_tells : Tells (eq_by_cmp name_cmp)
 name_tells = record { itself = (eq_by_cmp_equiv nat_list_cmp_total).refl; told = tied name_cmp name_ties }
 
 pub rounds_give_equal : RoundsGiveEqual
-rounds_give_equal nodes given arcs ok x y = (
-  λ r. forced (eq_by_cmp node_cmp) (eq_by_cmp name_cmp) node_tells name_tells nodes given arcs ok _ r,
-  λ e. enough (eq_by_cmp node_cmp) (eq_by_cmp name_cmp) node_tells name_tells nodes given arcs ok e,
-)
+rounds_give_equal nodes given arcs ok x y =
+    (λ r. forced (eq_by_cmp node_cmp) (eq_by_cmp name_cmp) node_tells name_tells nodes given arcs ok _ r,
+      λ e. enough (eq_by_cmp node_cmp) (eq_by_cmp name_cmp) node_tells name_tells nodes given arcs ok e)

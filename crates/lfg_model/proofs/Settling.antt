@@ -17,7 +17,7 @@ count-le p (y ∷ ys) = let h = count-le p ys in elim (p y) as (λ b. cond b 1 0
 
 -- a larger test passes the same elements, or more
 more_or_same : {Y : Type 0} (p q : Y → Bool) (ys : List Y) → ((y : Y) → In y ys → p y ≡ true → q y ≡ true)
-    → ((count p ys ≡ count q ys) × ((y : Y) → In y ys → q y ≡ p y)) ⊎ (count p ys < count q ys)
+  → ((count p ys ≡ count q ys) × ((y : Y) → In y ys → q y ≡ p y)) ⊎ (count p ys < count q ys)
 unfolding count
 more_or_same p q [] sub = inl (refl, λ y h. elim h [ ])
 more_or_same {Y = Y} p q (x ∷ ys) sub = go (p x) (q x) refl refl (more_or_same p q ys (λ y h. sub y (later h)))
@@ -27,7 +27,7 @@ more_or_same {Y = Y} p q (x ∷ ys) sub = go (p x) (q x) refl refl (more_or_same
     all y e each (later h) = each y h
 
     go : (b c : Bool) → p x ≡ b → q x ≡ c → ((count p ys ≡ count q ys) × ((y : Y) → In y ys → q y ≡ p y)) ⊎ (count p ys < count q ys)
-        → ((cond (p x) 1 0 + count p ys ≡ cond (q x) 1 0 + count q ys) × ((y : Y) → In y (x ∷ ys) → q y ≡ p y)) ⊎ (cond (p x) 1 0 + count p ys < cond (q x) 1 0 + count q ys)
+      → ((cond (p x) 1 0 + count p ys ≡ cond (q x) 1 0 + count q ys) × ((y : Y) → In y (x ∷ ys) → q y ≡ p y)) ⊎ (cond (p x) 1 0 + count p ys < cond (q x) 1 0 + count q ys)
     go true false e f r = absurd (false≢true (sym f ∙ sub x here e))
     go false true e f r = rw (e, f) (inr (elim r [ inl s ↦ omega (arith, s.0) | inr l ↦ omega arith ]))
     go true true e f (inl s) = inl (rw (e, f) (ap (λ n. 1 + n) s.0), λ y. all y (f ∙ sym e) s.1)
@@ -38,6 +38,7 @@ more_or_same {Y = Y} p q (x ∷ ys) sub = go (p x) (q x) refl refl (more_or_same
 module _ {Y : Type 0} (table : List Y) (f : ℕ → Y → Bool)
     (grows : (k : ℕ) (y : Y) → In y table → f k y ≡ true → f (suc k) y ≡ true)
     (follows : (k : ℕ) → ((y : Y) → In y table → f (suc k) y ≡ f k y) → (y : Y) → In y table → f (suc (suc k)) y ≡ f (suc k) y) where
+
   abbrev Same : ℕ → Type 0
   Same k = (y : Y) → In y table → f (suc k) y ≡ f k y
 
@@ -47,9 +48,9 @@ module _ {Y : Type 0} (table : List Y) (f : ℕ → Y → Bool)
   progress : (k : ℕ) → Progress k
   progress zero = inr (omega arith)
   progress (suc k) = elim (progress k) [
-    | inl s ↦ inl (s.0, omega arith, s.2)
+      inl s ↦ inl (s.0, omega arith, s.2)
     | inr c ↦ elim (more_or_same (f k) (f (suc k)) table (grows k)) [ inl s ↦ inl (k, omega arith, s.1) | inr l ↦ inr (omega arith) ]
-  ]
+    ]
 
   pub rising : (n m : ℕ) (y : Y) → In y table → f n y ≡ true → f (n + m) y ≡ true
   rising n zero y h t = rw add-zero t
@@ -89,9 +90,9 @@ In-below : (n p : ℕ) → p < n → In p (below n)
 unfolding below
 In-below zero p l = absurd (omega arith)
 In-below (suc n) p l = elim (cases_order p n) [
-  | inl e ↦ rw e here
+    inl e ↦ rw e here
   | inr o ↦ elim o [ inl less ↦ later (In-below n p less) | inr more ↦ absurd (omega arith) ]
-]
+  ]
 
 In_below : (n p : ℕ) → In p (below n) → p < n
 unfolding below
@@ -102,5 +103,5 @@ pub growing_rounds_settle : GrowingRoundsSettle
 growing_rounds_settle places holds rounds k p l t =
     subst (λ (n : ℕ). holds n p ≡ true) (length-below places)
     (settles (below places) holds (λ n q h. rounds.keeps n q (In_below places q h))
-    (λ n same q h. rounds.follows n (λ r m. same r (In-below places r m)) q (In_below places q h))
-    k p (In-below places p l) t)
+      (λ n same q h. rounds.follows n (λ r m. same r (In-below places r m)) q (In_below places q h))
+      k p (In-below places p l) t)

@@ -66,9 +66,9 @@ module _ (ls : List Literal) where
 -- names that are not apart are one
 one_of : (a b : Name) → ¬ (a ≢ b) → a ≡ b
 one_of a b near = elim (cases_Bool (eq_by_cmp name_cmp a b)) [
-  | inl t ↦ name_tells.told a b t
+    inl t ↦ name_tells.told a b t
   | inr t ↦ absurd (near (λ e. false≢true (sym t ∙ ap (eq_by_cmp name_cmp a) (sym e) ∙ name_tells.itself a)))
-]
+  ]
 
 of_atom : (a b : Name) → constant.Atom a ≡ constant.Atom b → a ≡ b
 of_atom a b e = cc

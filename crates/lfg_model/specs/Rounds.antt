@@ -12,8 +12,8 @@ abbrev pub Round : {X A : Type 0} → List X → List (X × X) → List (X × A 
 Round nodes given arcs zero x y = (In x nodes × (x ≡ y)) ⊎ (In (x, y) given ⊎ In (y, x) given)
 Round {X} {A} nodes given arcs (suc k) t u =
     Round nodes given arcs k t u
-    ⊎ (((y : X) × Round nodes given arcs k t y × Round nodes given arcs k y u)
-    ⊎ ((x : X) × (y : X) × (a : A) × Round nodes given arcs k x y × In (x, a, t) arcs × In (y, a, u) arcs))
+  ⊎ (((y : X) × Round nodes given arcs k t y × Round nodes given arcs k y u)
+  ⊎ ((x : X) × (y : X) × (a : A) × Round nodes given arcs k x y × In (x, a, t) arcs × In (y, a, u) arcs))
 
 -- given pairs and arcs are between nodes of the list
 pub record AreBetween {X A : Type 0} (nodes : List X) (given : List (X × X)) (arcs : List (X × A × X)) : Type 0 where
