@@ -28,3 +28,4 @@ pub mod SomeReading
 pub mod SymbolRule
 pub mod TreeOrder
 pub mod Within
+pub mod ThinLaws

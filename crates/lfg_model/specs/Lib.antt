@@ -14,8 +14,8 @@ pub mod Rounds
 pub mod Solve
 pub mod Terms
 pub mod Thin
+pub mod ThinText
 pub mod Pieces
 pub mod Tokens
 pub mod Trees
 pub mod Unambiguous
-pub mod ThinText

@@ -15,7 +15,7 @@ use Rattle.lfg_model.specs.declared.lexeme.Lexeme.TheVariants.{Word, Open, Close
 use Rattle.lfg_model.specs.Lists.{In}
 use Rattle.lfg_model.specs.Terms.{Name}
 use Rattle.lfg_model.specs.Tokens.{Tokens}
-use Rattle.lfg_model.specs.Thin.{Daughter, Phrase, Equation, Entry, Draft, IsConsistent, Gives}
+use Rattle.lfg_model.specs.Thin.{Daughter, Phrase, Equation, Entry, Draft, IsConsistent, Gives, IsThinGrammar}
 
 -- the two texts are the same
 abbrev pub same : Name → Name → Bool
@@ -265,9 +265,13 @@ pub record ThinFile (bytes : List ℕ) (g : Grammar) : Type 0 where
 
 -- ---- sentence files
 
+-- an ASCII lower-case letter
+abbrev pub is_letter : ℕ → Bool
+is_letter b = nat_le 97 b && nat_le b 122
+
 -- one or more ASCII lower-case letters
 abbrev pub is_word : List ℕ → Bool
-is_word w = not (length w == 0) && list_all (λ b. nat_le 97 b && nat_le b 122) w
+is_word w = not (length w == 0) && list_all is_letter w
 
 -- what stands between the spaces of a line
 abbrev pub words : List ℕ → List (List ℕ)
@@ -277,10 +281,14 @@ words line = slice_split (λ b. b == 32) line
 abbrev pub is_thin_line : List ℕ → Bool
 is_thin_line line = length line == 0 || (list_all is_word (words line) && nat_le (length (words line)) 64)
 
+-- a letter, a space or a line feed
+abbrev pub is_sentence_byte : ℕ → Bool
+is_sentence_byte b = b == 10 || b == 32 || is_letter b
+
 -- the text is a thin sentence file
 pub record ThinSentences (bytes : List ℕ) : Type 0 where
   pub short : length bytes ≤ 65536
-  pub no_return : list_any (λ b. b == 13) bytes ≡ false
+  pub plain : IsTrue (list_all is_sentence_byte bytes)
   pub thin : IsTrue (list_all is_thin_line (lines bytes))
 
 -- a word with itself as its only form
@@ -292,3 +300,7 @@ token_of word = record { text = word; forms = word ∷ [] }
 -- Law: a file gives one grammar at most.
 abbrev pub OneThinGrammar : Type 0
 OneThinGrammar = (bytes : List ℕ) (g h : Grammar) → ThinFile bytes g → ThinFile bytes h → g ≡ h
+
+-- Law: the grammar of a thin file is thin: each of its rules has a daughter.
+abbrev pub ThinFilesAreThin : Type 0
+ThinFilesAreThin = (bytes : List ℕ) (g : Grammar) → ThinFile bytes g → IsThinGrammar g

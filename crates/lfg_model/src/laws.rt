@@ -8,7 +8,9 @@ ghost use Rattle.lfg_model.specs.ManWalks.{TheManWalks};
 ghost use Rattle.lfg_model.specs.Readings.{ClassesHaveOneName, ReadingsAreOne};
 ghost use Rattle.lfg_model.specs.Rounds.{GrowingRoundsSettle, RoundsGiveEqual};
 ghost use Rattle.lfg_model.specs.Solve.{RoundsGiveSolution};
+ghost use Rattle.lfg_model.specs.ThinTrees.{OneThinDerivation, ThinLeavesNoChoice};
 ghost use Rattle.lfg_model.specs.Unambiguous.{OneDerivation};
+ghost use Rattle.lfg_model.specs.ThinText.{OneThinGrammar, ThinFilesAreThin};
 
 /// Two lists of facts in ascending order that have the same facts are equal.
 pub fn sets_of_facts_are_one()
@@ -64,6 +66,16 @@ pub fn one_derivation()
     ensures { OneDerivation }
 {}
 
+/// A thin grammar leaves no choice for a sentence whose tokens have their own text alone as forms.
+pub fn thin_grammars_leave_no_choice()
+    ensures { ThinLeavesNoChoice }
+{}
+
+/// Such a sentence has one derivation at most by a thin grammar.
+pub fn one_thin_derivation()
+    ensures { OneThinDerivation }
+{}
+
 /// The text of the facts of a derivation's tree is that of the tree, where no edge stands twice and
 /// each begins before its end.
 pub fn tree_text_is_bracketed()
@@ -74,4 +86,10 @@ pub fn tree_text_is_bracketed()
 /// a plural subject.
 pub fn the_man_walks()
     ensures { TheManWalks }
+{}
+
+/// A text is a thin grammar file of one grammar at most, and that grammar is thin.
+pub fn thin_files_have_one_grammar()
+    ensures one { OneThinGrammar }
+    ensures thin { ThinFilesAreThin }
 {}

@@ -1,1 +1,12 @@
 pub mod CauseLaws
+pub mod AllCategories
+pub mod AsciiBytes
+pub mod Consistency
+pub mod Cutting
+pub mod FileSteps
+pub mod Forms
+pub mod Graphs
+pub mod HeadSteps
+pub mod Places
+pub mod PlacesOf
+pub mod Rows

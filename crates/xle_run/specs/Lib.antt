@@ -1,2 +1,6 @@
+pub mod Categories
 pub mod Causes
 pub mod Commands
+pub mod Drafts
+pub mod Heads
+pub mod Reading

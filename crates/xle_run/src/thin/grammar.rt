@@ -1,14 +1,16 @@
-use crate::thin::draft::{Daughter, Draft, Entry, Equation, Phrase, draft_of};
-use crate::thin::lexeme::{Lexeme, lexemes_of};
-use lfg_lexer::{LexFault, tokens_of};
+ghost use Rattle.std.specs.Prelude.{◌≡◌, ◌++◌, ◌∷◌, [], IfOk, OnOk, None, map};
+ghost use Rattle.std.specs.List.{flat_map};
+ghost use Rattle.lfg_terms.specs.Order.{name_cmp};
+ghost use Rattle.lfg_model.specs.Lists.{Lists};
+ghost use Rattle.lfg_model.specs.Thin.{Gives, IsCategory, item_of, last_of, lex_of_entry, link, next_from, one_string, row_graph, rule_of_phrase, schema_of_equation};
+ghost use Rattle.xle_run.specs.Drafts.{daughter_view, draft_view, entry_view, equation_view, phrase_view};
+ghost use Rattle.xle_run.specs.Categories.{phrase_cats, all_cats};
+
+use crate::thin::draft::{Daughter, Draft, Entry, Equation, Phrase};
 use lfg_terms::{
     Arrow, Des, Grammar, Graph, Item, Lex, List, Name, Path, Paths, Rule, Schema, Val,
 };
 use std::alloc::{AllocError, Global};
-use std::collections::{BTreeMap, BTreeSet};
-
-/// The length of the longest thin grammar file, in bytes.
-const LONGEST: usize = 4_096;
 
 /// The most category nodes of a generated tree where the grammar does not say it.
 const GENSIZE: u32 = 60;
@@ -16,206 +18,23 @@ const GENSIZE: u32 = 60;
 /// The limit of a sentence's counts where the grammar does not say it.
 const MAXFACTS: u32 = 200_000;
 
-/// The grammar of a thin file, or `None` where the file is not thin.
-///
-/// # Errors
-///
-/// Only for want of memory.
-pub(crate) fn thin_grammar(alloc: Global, bytes: &[u8]) -> Result<Option<Grammar>, AllocError> {
-    if bytes.len() > LONGEST || !bytes.iter().all(|byte| is_thin_byte(*byte)) {
-        return Ok(None);
-    }
-    let Ok(text) = str::from_utf8(bytes) else {
-        return Ok(None);
-    };
-    let tokens = match tokens_of(alloc, text) {
-        Ok(tokens) => tokens,
-        Err(LexFault::NoToken { .. }) => return Ok(None),
-        Err(LexFault::Memory) => return Err(AllocError),
-    };
-    let Some(lexemes) = lexemes_of(alloc, &tokens)? else {
-        return Ok(None);
-    };
-    let Some(draft) = draft_of(alloc, &lexemes)? else {
-        return Ok(None);
-    };
-    if has_in_set(&lexemes) || !is_consistent(alloc, &draft)? {
-        return Ok(None);
-    }
-    Ok(Some(grammar_of(alloc, &draft)?))
+/// The path expression whose only string is this.
+fn one_path(alloc: Global, names: Vec<Name>) -> Result<Paths, AllocError>
+    ensures { IfOk result (λ p. Some p ≡ one_string names.items) }
+{
+    let path = Path::new(alloc, names)?;
+    Paths::new(alloc, vec![in alloc; path]?)
 }
 
-/// A line feed or printable ASCII, and neither a double quote nor a backquote.
-fn is_thin_byte(byte: u8) -> bool {
-    byte == b'\n' || (matches!(byte, b' '..=b'~') && byte != b'"' && byte != b'`')
-}
-
-/// Whether the name `in_set` stands in an entry. Headings of sections may have it.
-fn has_in_set(lexemes: &[Lexeme]) -> bool {
-    let mut place = 0usize;
-    for lexeme in lexemes {
-        if let Lexeme::Word(name) = lexeme
-            && place >= 8
-            && name.text() == "in_set"
-        {
-            return true;
-        }
-        match lexeme {
-            Lexeme::Divider => place = 0,
-            _ => place = place.saturating_add(1),
-        }
-    }
-    false
-}
-
-/// Whether no category heads two rules, no form two entries, no category has a rule and an entry,
-/// each daughter that heads a rule heads a later one, and no category is called `e`.
-fn is_consistent(alloc: Global, draft: &Draft) -> Result<bool, AllocError> {
-    let Some(heads) = heads_of(alloc, &draft.phrases)? else {
-        return Ok(false);
-    };
-    Ok(
-        !is_empty_item(&draft.root)
-            && have_later_daughters(&heads, &draft.phrases)
-            && have_own_forms(alloc, &heads, &draft.entries)?,
-    )
-}
-
-/// Whether the name is that of the empty item.
-fn is_empty_item(cat: &Name) -> bool {
-    cat.text() == "e"
-}
-
-/// The place of each category's rule, or `None` where a category heads two, or `e` heads one.
-fn heads_of(
-    alloc: Global,
-    phrases: &[Phrase],
-) -> Result<Option<BTreeMap<Name, usize>>, AllocError> {
-    let mut heads = BTreeMap::new(alloc);
-    for i in 0..phrases.len() {
-        let cat = &phrases[i].cat;
-        if is_empty_item(cat) || heads.insert(cat.clone()?, i)?.is_some() {
-            return Ok(None);
-        }
-    }
-    Ok(Some(heads))
-}
-
-/// Whether each daughter that heads a rule heads a later one than its mother's, and none is `e`.
-fn have_later_daughters(heads: &BTreeMap<Name, usize>, phrases: &[Phrase]) -> bool {
-    for i in 0..phrases.len() {
-        for daughter in &phrases[i].daughters {
-            let later = match heads.get(&daughter.cat) {
-                Some(place) => *place > i,
-                None => true,
-            };
-            if !later || is_empty_item(&daughter.cat) {
-                return false;
-            }
-        }
-    }
-    true
-}
-
-/// Whether no form heads two entries, and no entry has a category with a rule, or `e`.
-fn have_own_forms(
-    alloc: Global,
-    heads: &BTreeMap<Name, usize>,
-    entries: &[Entry],
-) -> Result<bool, AllocError> {
-    let mut forms = BTreeSet::new(alloc);
-    for entry in entries {
-        if heads.contains_key(&entry.cat)
-            || is_empty_item(&entry.cat)
-            || !forms.insert(entry.form.clone()?)?
-        {
-            return Ok(false);
-        }
-    }
-    Ok(true)
-}
-
-/// The grammar that the draft says.
-fn grammar_of(alloc: Global, draft: &Draft) -> Result<Grammar, AllocError> {
-    let mut rules = Vec::new(alloc);
-    for phrase in &draft.phrases {
-        rules.push(rule_of(alloc, phrase)?)?;
-    }
-    let mut lexicon = Vec::new(alloc);
-    for entry in &draft.entries {
-        lexicon.push(lex_of(alloc, entry)?)?;
-    }
-    Ok(Grammar {
-        root: draft.root.clone()?,
-        governable: List::new(alloc, Vec::new(alloc))?,
-        gensize: GENSIZE,
-        maxfacts: MAXFACTS,
-        cats: List::new(alloc, categories_of(alloc, draft)?)?,
-        rules: List::new(alloc, rules)?,
-        lexicon: List::new(alloc, lexicon)?,
-    })
-}
-
-/// All categories of the draft in the order of their bytes, each once.
-fn categories_of(alloc: Global, draft: &Draft) -> Result<Vec<Name>, AllocError> {
-    let mut cats = vec![in alloc; draft.root.clone()?]?;
-    for phrase in &draft.phrases {
-        cats.push(phrase.cat.clone()?)?;
-        for daughter in &phrase.daughters {
-            cats.push(daughter.cat.clone()?)?;
-        }
-    }
-    for entry in &draft.entries {
-        cats.push(entry.cat.clone()?)?;
-    }
-    cats.sort()?;
-    cats.dedup();
-    Ok(cats)
-}
-
-/// The rule of a phrase: its daughters in a row.
-fn rule_of(alloc: Global, phrase: &Phrase) -> Result<Rule, AllocError> {
-    let mut items = Vec::new(alloc);
-    for daughter in &phrase.daughters {
-        items.push(item_of(alloc, daughter)?)?;
-    }
-    let graph = row_graph(alloc, phrase.daughters.len())?;
-    Ok(Rule {
-        cat: phrase.cat.clone()?,
-        items: List::new(alloc, items)?,
-        graph,
-    })
-}
-
-/// The graph of so many items in a row, numbered from 1.
-fn row_graph(alloc: Global, size: usize) -> Result<Graph, AllocError> {
-    let mut next = Vec::new(alloc);
-    let mut last = Vec::new(alloc);
-    let size = size.min(LONGEST) as u32;
-    for number in 1..=size {
-        let followers = if number < size {
-            vec![in alloc; number + 1]?
-        } else {
-            Vec::new(alloc)
-        };
-        next.push(List::new(alloc, followers)?)?;
-        last.push(number == size)?;
-    }
-    Ok(Graph {
-        size,
-        first: List::new(alloc, vec![in alloc; 1u32]?)?,
-        next: List::new(alloc, next)?,
-        last: List::new(alloc, last)?,
-    })
-}
-
-/// The item of a daughter: its f-structure is the mother's, or the value of a function there.
-fn item_of(alloc: Global, daughter: &Daughter) -> Result<Item, AllocError> {
-    let path = match &daughter.function {
+/// The schema that links a daughter to its mother: `^=!`, or `(^ A)=!` for the function A.
+fn link_of(alloc: Global, function: &Option<Name>) -> Result<Schema<Paths>, AllocError>
+    ensures { IfOk result (λ s. s ≡ link function.now) }
+{
+    let path = match function {
         Some(function) => Some(one_path(alloc, vec![in alloc; function.clone()?]?)?),
         None => None,
     };
-    let link = Schema::Define {
+    Ok(Schema::Define {
         left: Des {
             arrow: Arrow::Up,
             path,
@@ -224,19 +43,146 @@ fn item_of(alloc: Global, daughter: &Daughter) -> Result<Item, AllocError> {
             arrow: Arrow::Down,
             path: None,
         }),
-    };
+    })
+}
+
+/// The item of a daughter.
+fn item_of(alloc: Global, daughter: &Daughter) -> Result<Item, AllocError>
+    ensures { IfOk result (λ i. i ≡ item_of (daughter_view daughter.now)) }
+{
+    let link = link_of(alloc, &daughter.function)?;
     Ok(Item {
         cat: Some(daughter.cat.clone()?),
         schemata: List::new(alloc, vec![in alloc; link]?)?,
     })
 }
 
-/// The lexicon entry with its equations.
-fn lex_of(alloc: Global, entry: &Entry) -> Result<Lex, AllocError> {
+/// The items of daughters.
+fn items_of(alloc: Global, daughters: &[Daughter]) -> Result<Vec<Item>, AllocError>
+    ensures { IfOk result (λ v. v.items ≡ map item_of (map daughter_view daughters.now)) }
+{
+    let mut items = Vec::new(alloc);
+    for daughter in daughters {
+        items.push(item_of(alloc, daughter)?)?;
+    }
+    Ok(items)
+}
+
+/// For each of so many items in a row the items that may follow it: the next one alone.
+fn next_lists(alloc: Global, size: u32) -> Result<Vec<List<u32>>, AllocError>
+    ensures { IfOk result (λ v. v.items ≡ next_from 1 size) }
+{
+    let mut next = Vec::new(alloc);
+    if size == 0 {
+        return Ok(next);
+    }
+    for number in 1..size {
+        next.push(List::new(alloc, vec![in alloc; number + 1]?)?)?;
+    }
+    next.push(List::new(alloc, Vec::new(alloc))?)?;
+    Ok(next)
+}
+
+/// For each of so many items in a row whether it may end the row: the last one may.
+fn last_flags(alloc: Global, size: u32) -> Result<Vec<bool>, AllocError>
+    ensures { IfOk result (λ v. v.items ≡ last_of size) }
+{
+    let mut last = Vec::new(alloc);
+    if size == 0 {
+        return Ok(last);
+    }
+    for _number in 1..size {
+        last.push(false)?;
+    }
+    last.push(true)?;
+    Ok(last)
+}
+
+/// The graph of so many items in a row, numbered from 1. More than a `u32` can number are taken for
+/// more than the memory holds.
+#[tactic(auto, unfolding(lfg_model::specs::Thin::row_graph))]
+fn row_graph(alloc: Global, size: usize) -> Result<Graph, AllocError>
+    ensures { IfOk result (λ g. g ≡ row_graph size) }
+{
+    let Ok(size) = u32::try_from(size) else {
+        return Err(AllocError);
+    };
+    let next = next_lists(alloc, size)?;
+    let last = last_flags(alloc, size)?;
+    Ok(Graph {
+        size,
+        first: List::new(alloc, vec![in alloc; 1u32]?)?,
+        next: List::new(alloc, next)?,
+        last: List::new(alloc, last)?,
+    })
+}
+
+/// The rule of a phrase: its daughters in a row.
+fn rule_of(alloc: Global, phrase: &Phrase) -> Result<Rule, AllocError>
+    ensures { IfOk result (λ r. r ≡ rule_of_phrase (phrase_view phrase.now)) }
+{
+    let items = items_of(alloc, &phrase.daughters)?;
+    let graph = row_graph(alloc, phrase.daughters.len())?;
+    Ok(Rule {
+        cat: phrase.cat.clone()?,
+        items: List::new(alloc, items)?,
+        graph,
+    })
+}
+
+/// The rules of phrases.
+fn rules_of(alloc: Global, phrases: &[Phrase]) -> Result<Vec<Rule>, AllocError>
+    ensures { IfOk result (λ v. v.items ≡ map rule_of_phrase (map phrase_view phrases.now)) }
+{
+    let mut rules = Vec::new(alloc);
+    for phrase in phrases {
+        rules.push(rule_of(alloc, phrase)?)?;
+    }
+    Ok(rules)
+}
+
+/// The equation as a schema.
+fn schema_of(alloc: Global, equation: &Equation) -> Result<Schema<Paths>, AllocError>
+    ensures { IfOk result (λ s. s ≡ schema_of_equation (equation_view equation.now)) }
+{
+    let names = copies_of(alloc, &equation.path)?;
+    let path = one_path(alloc, names)?;
+    Ok(Schema::Define {
+        left: Des {
+            arrow: Arrow::Up,
+            path: Some(path),
+        },
+        right: Val::Atom(equation.atom.clone()?),
+    })
+}
+
+/// The same names.
+fn copies_of(alloc: Global, names: &[Name]) -> Result<Vec<Name>, AllocError>
+    ensures { IfOk result (λ v. v.items ≡ names.now) }
+{
+    let mut copies = Vec::new(alloc);
+    for name in names {
+        copies.push(name.clone()?)?;
+    }
+    Ok(copies)
+}
+
+/// The schemata of equations.
+fn schemata_of(alloc: Global, equations: &[Equation]) -> Result<Vec<Schema<Paths>>, AllocError>
+    ensures { IfOk result (λ v. v.items ≡ map schema_of_equation (map equation_view equations.now)) }
+{
     let mut schemata = Vec::new(alloc);
-    for equation in &entry.equations {
+    for equation in equations {
         schemata.push(schema_of(alloc, equation)?)?;
     }
+    Ok(schemata)
+}
+
+/// The lexicon entry with its equations.
+fn lex_of(alloc: Global, entry: &Entry) -> Result<Lex, AllocError>
+    ensures { IfOk result (λ x. x ≡ lex_of_entry (entry_view entry.now)) }
+{
+    let schemata = schemata_of(alloc, &entry.equations)?;
     Ok(Lex {
         form: entry.form.clone()?,
         cat: entry.cat.clone()?,
@@ -244,23 +190,82 @@ fn lex_of(alloc: Global, entry: &Entry) -> Result<Lex, AllocError> {
     })
 }
 
-/// The equation as a schema.
-fn schema_of(alloc: Global, equation: &Equation) -> Result<Schema<Paths>, AllocError> {
-    let mut names = Vec::new(alloc);
-    for name in &equation.path {
-        names.push(name.clone()?)?;
+/// The lexicon of entries.
+fn lexicon_of(alloc: Global, entries: &[Entry]) -> Result<Vec<Lex>, AllocError>
+    ensures { IfOk result (λ v. v.items ≡ map lex_of_entry (map entry_view entries.now)) }
+{
+    let mut lexicon = Vec::new(alloc);
+    for entry in entries {
+        lexicon.push(lex_of(alloc, entry)?)?;
     }
-    Ok(Schema::Define {
-        left: Des {
-            arrow: Arrow::Up,
-            path: Some(one_path(alloc, names)?),
-        },
-        right: Val::Atom(equation.atom.clone()?),
-    })
+    Ok(lexicon)
 }
 
-/// The path expression whose only string is this.
-fn one_path(alloc: Global, names: Vec<Name>) -> Result<Paths, AllocError> {
-    let path = Path::new(alloc, names)?;
-    Paths::new(alloc, vec![in alloc; path]?)
+/// Appends the category of a phrase and those of its daughters.
+fn push_phrase(cats: &mut Vec<Name>, phrase: &Phrase) -> Result<(), AllocError>
+    ensures { OnOk result (cats.new.items ≡ cats.old.items ++ phrase_cats (phrase_view phrase.now)) }
+{
+    cats.push(phrase.cat.clone()?)?;
+    for daughter in &phrase.daughters {
+        cats.push(daughter.cat.clone()?)?;
+    }
+    Ok(())
+}
+
+/// Appends the categories of phrases and of their daughters.
+fn push_phrases(cats: &mut Vec<Name>, phrases: &[Phrase]) -> Result<(), AllocError>
+    ensures { OnOk result (cats.new.items ≡ cats.old.items ++ flat_map phrase_cats (map phrase_view phrases.now)) }
+{
+    for phrase in phrases {
+        push_phrase(cats, phrase)?;
+    }
+    Ok(())
+}
+
+/// Appends the categories of words.
+fn push_words(cats: &mut Vec<Name>, entries: &[Entry]) -> Result<(), AllocError>
+    ensures { OnOk result (cats.new.items ≡ cats.old.items ++ map (λ x. x.cat) (map entry_view entries.now)) }
+{
+    for entry in entries {
+        cats.push(entry.cat.clone()?)?;
+    }
+    Ok(())
+}
+
+/// The categories of the draft as they come.
+fn all_cats(alloc: Global, draft: &Draft) -> Result<Vec<Name>, AllocError>
+    ensures { IfOk result (λ v. v.items ≡ all_cats (draft_view draft.now)) }
+{
+    let mut cats = vec![in alloc; draft.root.clone()?]?;
+    push_phrases(&mut cats, &draft.phrases)?;
+    push_words(&mut cats, &draft.entries)?;
+    Ok(cats)
+}
+
+/// All categories of the draft in the order of their bytes, each once.
+fn categories_of(alloc: Global, draft: &Draft) -> Result<Vec<Name>, AllocError>
+    ensures { IfOk result (λ v. Lists name_cmp (IsCategory (draft_view draft.now)) v.items) }
+{
+    let mut cats = all_cats(alloc, draft)?;
+    cats.sort()?;
+    cats.dedup();
+    Ok(cats)
+}
+
+/// The grammar that the draft says.
+pub(crate) fn grammar_of(alloc: Global, draft: &Draft) -> Result<Grammar, AllocError>
+    ensures { IfOk result (λ g. Gives (draft_view draft.now) g) }
+{
+    let rules = rules_of(alloc, &draft.phrases)?;
+    let lexicon = lexicon_of(alloc, &draft.entries)?;
+    let cats = categories_of(alloc, draft)?;
+    Ok(Grammar {
+        root: draft.root.clone()?,
+        governable: List::new(alloc, Vec::new(alloc))?,
+        gensize: GENSIZE,
+        maxfacts: MAXFACTS,
+        cats: List::new(alloc, cats)?,
+        rules: List::new(alloc, rules)?,
+        lexicon: List::new(alloc, lexicon)?,
+    })
 }
