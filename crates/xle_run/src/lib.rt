@@ -2,12 +2,14 @@
 #![tactic(auto)]
 
 mod command;
+mod loads;
 mod pair_text;
 mod readings;
 mod report;
 mod run_command;
 mod search;
 mod section;
+mod sections;
 #[cfg(test)]
 mod tests;
 mod thin;

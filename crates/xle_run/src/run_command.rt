@@ -1,12 +1,14 @@
-ghost use Rattle.std.specs.Prelude.{◌≡◌, ◌≢◌, ◌↔◌, ◌⊎◌, ℕ, List, [], ◌∷◌, None, map, string_bytes, IfErr};
+ghost use Rattle.std.specs.Prelude.{◌≡◌, ◌≢◌, ◌↔◌, ◌⊎◌, ℕ, List, [], Some, None, map, string_bytes, IfErr};
 ghost use Rattle.std.specs.List.{Contains};
 ghost use Rattle.lfg_io.specs.Counts.{Rose};
 ghost use Rattle.lfg_io.specs.Sink.{Appends, AppendsPrefix};
-ghost use Rattle.lfg_model.specs.Output.{command_of, IfReadFault, IfBadGrammar, IsFileOf, exit_status, fault_line};
-ghost use Rattle.xle_run.specs.Causes.{IsFailure, IsRunFailure};
+ghost use Rattle.lfg_model.specs.Output.{command_of, IfReadFault, IfBadGrammar, IsFileOf, IsOutput, exit_status, fault_line};
+ghost use Rattle.lfg_io.specs.Shelf.{Files};
+ghost use Rattle.xle_run.specs.Loads.{file_in, Accepts, AreAccepted};
+ghost use Rattle.xle_run.specs.Causes.{IsRunFailure};
 
 use crate::command::{Command, command_of};
-use crate::readings::{load_grammar, load_sentences, write_sections};
+use crate::readings::readings;
 use crate::report::put_fault_line;
 use lfg_io::{Shelf, Sink};
 use lfg_model::{GrammarFault, Status};
@@ -37,6 +39,9 @@ pub fn run<F: Shelf, O: Sink, E: Sink>(
     ensures bad_file { IfBadGrammar result (λ name fault. IsFileOf (map string_bytes words.now) name) }
     ensures bad_fault { IfBadGrammar result (λ name fault. fault ≡ GrammarFault.Entry 0) }
 
+    ensures not_thin { (files : Files) → F.files shelf.old ≡ Some files → IfBadGrammar result (λ name fault. IsOutput (file_in files) (command_of (map string_bytes words.now)) [] result) }
+    ensures thin { (files : Files) → F.files shelf.old ≡ Some files → (result ≡ Status.Done) ⊎ (result ≡ Status.WriteFault) → AreAccepted files (command_of (map string_bytes words.now)) }
+
     ensures write_fault { result ≡ Status.WriteFault → Rose (O.faults out.old) (O.faults out.new) }
 
     // What stands on `err`: nothing, or the line for the status, or a prefix of it after a fault.
@@ -61,6 +66,8 @@ fn carry_out<F: Shelf, O: Sink>(
     shelf: &mut F,
     out: &mut O,
 ) -> Result<(), Status>
+    ensures refused { (files : Files) → F.files shelf.old ≡ Some files → IfErr result (λ status. IfBadGrammar status (λ name fault. IsOutput (file_in files) (command_of (map string_bytes words.now)) [] status)) }
+    ensures accepted { (files : Files) → F.files shelf.old ≡ Some files → Accepts files (command_of (map string_bytes words.now)) result }
     ensures failed { IfErr result (IsRunFailure (map string_bytes words.now) (F.sure shelf.old) (F.faults shelf.old) (F.faults shelf.new) (F.last_failed shelf.new) (O.faults out.old) (O.faults out.new)) }
     ensures usage { command_of (map string_bytes words.now) ≡ None → result ≡ Err Status.Usage }
     ensures files_kept { F.files shelf.new ≡ F.files shelf.old }
@@ -70,25 +77,6 @@ fn carry_out<F: Shelf, O: Sink>(
         Some(Command::Readings { grammar, sentences }) => {
             readings(alloc, grammar, sentences, shelf, out)
         }
-    }
-}
-
-/// Writes the readings of the sentences of the one file by the grammar of the other.
-fn readings<F: Shelf, O: Sink>(
-    alloc: Global,
-    grammar: &str,
-    sentences: &str,
-    shelf: &mut F,
-    out: &mut O,
-) -> Result<(), Status>
-    ensures failed { IfErr result (IsFailure (grammar.now ∷ sentences.now ∷ []) (F.sure shelf.old) (F.faults shelf.old) (F.faults shelf.new) (F.last_failed shelf.new) (O.faults out.old) (O.faults out.new)) }
-    ensures files_kept { F.files shelf.new ≡ F.files shelf.old }
-{
-    let grammar = load_grammar(alloc, shelf, grammar)?;
-    let bytes = load_sentences(alloc, shelf, sentences)?;
-    match str::from_utf8(&bytes) {
-        Ok(text) => write_sections(alloc, out, &grammar, text),
-        Err(_) => Ok(()),
     }
 }
 
