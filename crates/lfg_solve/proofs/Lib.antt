@@ -1,2 +1,3 @@
+pub mod Dividing
 pub mod MarkLaws
 pub mod Relabelling
