@@ -1,3 +1,5 @@
 pub mod Dividing
 pub mod MarkLaws
+pub mod Prefixes
 pub mod Relabelling
+pub mod Tables
