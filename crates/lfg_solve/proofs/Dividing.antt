@@ -188,7 +188,7 @@ module _ (count : ℕ) (given : List (ℕ × ℕ)) (arcs : List Arc) where
     → IsDivision count given arcs before → Joins before arc.to other.to after → length after ≡ length before → IsDivision count given arcs after
   division_along before after arc other i j e o d n l = division_joined before after arc.to other.to d (along_arcs arc other i j e (d.forced arc.from other.from o)) n l
 
-  In-numbers : (n i : ℕ) → In i (numbers n) → i < n
+  pub In-numbers : (n i : ℕ) → In i (numbers n) → i < n
   In-numbers zero i h = In-nil h
   In-numbers (suc n) i h = elim (In-cons_cases h) [ inl e ↦ omega arith | inr l ↦ let r = In-numbers n i l in omega arith ]
 
@@ -276,7 +276,7 @@ AreOwn-none = record { each = λ i k h. cc }
 pub AreOwn-push : (labels : List ℕ) (n : ℕ) → length labels ≡ n → AreOwn labels → AreOwn (labels ++ n ∷ [])
 AreOwn-push labels n l o = record { each = λ i k h. elim (get_push labels n i k h) [ inl e ↦ o.each i k e | inr p ↦ sym p.1 ∙ sym l ∙ sym p.0 ] }
 
-numbers-In : (n i : ℕ) → i < n → In i (numbers n)
+pub numbers-In : (n i : ℕ) → i < n → In i (numbers n)
 numbers-In zero i h = absurd (omega arith)
 numbers-In (suc n) i h = elim (cases_Bool (i == n)) [
     inl t ↦ let e : i ≡ n = grind (arith, nat_tests) in rw e here

@@ -2,4 +2,5 @@ pub mod Dividing
 pub mod MarkLaws
 pub mod Prefixes
 pub mod Relabelling
+pub mod Solving
 pub mod Tables

@@ -1,8 +1,9 @@
 -- Nodes in a table, and what stands for what.
 use Rattle.std.proofs.Common.{◌≡◌, ℕ, zero, suc, ◌+◌, ◌<◌, ◌≤◌, List, [], ◌∷◌, ◌++◌, map, length, take, get_or, Option, Some, None, option_to_list, refl, sym, ap, subst, ◌∙◌, arith, inl, inr, ◌⊎◌, Ordering, Less, Equal, Greater}
-use Rattle.std.specs.Prelude.{◌↔◌, slice_get}
+use Rattle.std.specs.Prelude.{◌↔◌, slice_get, Result, Ok, Err, IfSome, IfNone}
+use Rattle.std.specs.Result.{result_ok}
 use Rattle.std.specs.List.{flat_map, AllWithin, HoldsAt}
-use Rattle.std.specs.List.Sorted.{IsStrictlySortedBy, IsNonDecreasingBy, IsPartitionPoint}
+use Rattle.std.specs.List.Sorted.{IsSearchInRange, IsBinarySearchResult, IsStrictlySortedBy, IsNonDecreasingBy, IsPartitionPoint}
 use Rattle.std.specs.Ordering.{ordering_index, ordering_reverse}
 use Rattle.std.specs.Cmp.{IsTotalOrder}
 use Rattle.std.proofs.lemmas.Option.{same_Some, slice_get-get_or, slice_get_within, get_or_from_slice_get}
@@ -130,3 +131,14 @@ module _ {X Y : Type 0} (R : Y → X → Type 0) where
     where
       split : (x : X) → In x (flat_map f (take (k + 1) ls)) ↔ (In x (flat_map f (take k ls)) ⊎ In x (f z))
       split x = rw (flat_map-take_more f ls k z l e) (In-append_cases (flat_map f (take k ls)) (f z), λ h. elim h [ inl a ↦ In-append_left (f z) a | inr b ↦ In-append_right (flat_map f (take k ls)) b ])
+
+-- ---- what a binary search answers
+
+module _ {X : Type 0} (cmp : X → X → Ordering) (total : IsTotalOrder cmp) (ties : (x y : X) → cmp x y ≡ Equal → x ≡ y) where
+  pub place_found : (xs : List X) (x : X) (r : Result ℕ ℕ) → IsSearchInRange r (length xs) → IsBinarySearchResult (λ y. cmp y x) xs r → IfSome (result_ok r) (λ place. slice_get xs place ≡ Some x)
+  place_found xs x (Ok i) b h = found_at cmp total ties xs x i b h
+  place_found xs x (Err i) b h = tt
+
+  pub place_missing : (xs : List X) (x : X) (r : Result ℕ ℕ) → IsBinarySearchResult (λ y. cmp y x) xs r → IfNone (result_ok r) (IsStrictlySortedBy cmp xs → ¬ In x xs)
+  place_missing xs x (Ok i) h = tt
+  place_missing xs x (Err i) h = λ s. not_there cmp total ties xs x i s h

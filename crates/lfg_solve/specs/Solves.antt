@@ -1,5 +1,5 @@
 -- What the solution of a list of literals is in numbers.
-use Rattle.std.specs.Prelude.{◌≡◌, ◌↔◌, ℕ, List}
+use Rattle.std.specs.Prelude.{◌≡◌, ◌↔◌, ℕ, List, length}
 use Rattle.lfg_terms.specs.Order.{node_cmp}
 use Rattle.lfg_terms.specs.declared.node.Node.{Node}
 use Rattle.lfg_terms.specs.declared.literal.Literal.{Literal}
@@ -21,6 +21,7 @@ ClassOf s = HasClass s.nodes.items s.classes
 -- The arcs, values and members are those of the classes.
 pub record Solves (ls : List Literal) (s : Solution) : Type 0 where
   pub nodes : Lists node_cmp (λ n. In n (literals.nodes ls)) s.nodes.items
+  pub covers : length s.classes ≡ length s.nodes.items
   pub least : AreLeast s.classes
   pub same : (x z : Node) → SameNode ls x z ↔ ((k : ℕ) × ClassOf s x k × ClassOf s z k)
   pub arcs : (i : ℕ) (a : Name) (j : ℕ)

@@ -1,4 +1,4 @@
-ghost use Rattle.std.specs.Prelude.{◌≡◌, ℕ, ◌<◌, ◌≤◌, [], ◌∷◌, length, vec_len, IfNone, IfOk, IfSome, OnOk, Some, option_to_list, slice_get};
+ghost use Rattle.std.specs.Prelude.{◌≡◌, ℕ, ◌<◌, ◌≤◌, [], ◌∷◌, ◌++◌, length, vec_len, IfNone, IfOk, IfSome, OnOk, Some, option_to_list, slice_get};
 ghost use Rattle.std.specs.List.Sorted.{IsStrictlySortedBy};
 ghost use Rattle.lfg_terms.specs.Order.{node_cmp};
 ghost use Rattle.lfg_terms.specs.declared.node.Node.{Node};
@@ -6,7 +6,7 @@ ghost use Rattle.lfg_model.specs.declared.constant.Constant.{Constant};
 ghost use Rattle.lfg_model.specs.Lists.{In};
 ghost use Rattle.lfg_model.specs.Literals.{given, given_of, members, members_of, values, values_of};
 ghost use Rattle.lfg_model.specs.Terms.{Name};
-ghost use Rattle.lfg_solve.specs.Links.{ArcsWithin, GivenWithin, IsWithin};
+ghost use Rattle.lfg_solve.specs.Links.{ArcsWithin, GivenWithin};
 ghost use Rattle.lfg_solve.specs.Numbers.{ArePlaces, Corresponds, HasClass, IsArcOf, IsLabelled, IsMemberOf, IsStep, IsStepTo, IsValueOf};
 
 use crate::classes::{Arc, Classes, close};
@@ -42,7 +42,7 @@ pub struct Solution {
 }
 
 impl Solution {
-    ghost use Rattle.std.specs.Prelude.{◌≡◌, IfNone, IfOk, IfSome, List};
+    ghost use Rattle.std.specs.Prelude.{◌≡◌, ℕ, IfNone, IfOk, IfSome, List};
     ghost use Rattle.lfg_terms.specs.declared.literal.Literal.{Literal};
     ghost use Rattle.lfg_solve.specs.Solves.{ClassOf, Solves};
 
@@ -74,8 +74,10 @@ impl Solution {
 
     /// The class of the node, if it is one of the solution's nodes.
     pub(crate) fn class_of(&self, node: &Node) -> Option<usize>
-        ensures found { (ls : List Literal) → Solves ls self.now → IfSome result (ClassOf self.now node.now) }
-        ensures missing { (ls : List Literal) → Solves ls self.now → IfNone result ((k : ℕ) → ¬ ClassOf self.now node.now k) }
+        ensures found { IfSome result (ClassOf self.now node.now) }
+        ensures missing {
+            IfNone result ((ls : List Literal) → Solves ls self.now → (class : ℕ) → ¬ ClassOf self.now node.now class)
+        }
     {
         class_in(&self.nodes, &self.classes, node)
     }
@@ -94,8 +96,8 @@ fn place_of(nodes: &[Node], node: &Node) -> Option<usize>
 fn class_in(nodes: &[Node], classes: &Classes, node: &Node) -> Option<usize>
     ensures found { IfSome result (HasClass nodes.now classes.now node.now) }
     ensures missing {
-        IsStrictlySortedBy node_cmp nodes.now → length classes.now ≡ length nodes.now
-        → IfNone result (¬ In node.now nodes.now)
+        IfNone result (IsStrictlySortedBy node_cmp nodes.now → length classes.now ≡ length nodes.now
+            → ¬ In node.now nodes.now)
     }
 {
     match place_of(nodes, node) {
@@ -104,13 +106,22 @@ fn class_in(nodes: &[Node], classes: &Classes, node: &Node) -> Option<usize>
     }
 }
 
+/// Appends the item, if there is one.
+fn push_some<T: Drop>(items: &mut Vec<T>, item: Option<T>) -> Result<(), AllocError>
+    ensures { OnOk result (items.new.items ≡ items.old.items ++ option_to_list item) }
+{
+    if let Some(item) = item {
+        items.push(item)?;
+    }
+    Ok(())
+}
+
 /// The arc by the last attribute of the node's path, between places among the nodes.
 fn last_arc(alloc: Global, nodes: &[Node], node: &Node) -> Result<Option<Arc>, AllocError>
     requires sorted { IsStrictlySortedBy node_cmp nodes.now }
     requires listed { In node.now nodes.now }
     requires before { (x : Node) (a : Name) → IsStep x a node.now → In x nodes.now }
-    ensures within { IfOk result (λ found. IfSome found (λ arc. IsWithin (length nodes.now) arc.from arc.to)) }
-    ensures exact {
+    ensures {
         IfOk result (λ found. Corresponds (IsArcOf nodes.now) (IsStepTo (node.now ∷ [])) (option_to_list found))
     }
 {
@@ -140,9 +151,7 @@ fn arcs_between(alloc: Global, nodes: &[Node], defined: &[Node]) -> Result<Vec<A
 {
     let mut arcs = Vec::new(alloc);
     for node in defined {
-        if let Some(arc) = last_arc(alloc, nodes, node)? {
-            arcs.push(arc)?;
-        }
+        push_some(&mut arcs, last_arc(alloc, nodes, node)?)?;
     }
     Ok(arcs)
 }
@@ -151,8 +160,7 @@ fn arcs_between(alloc: Global, nodes: &[Node], defined: &[Node]) -> Result<Vec<A
 fn given_pair(nodes: &[Node], literal: &Literal) -> Option<(usize, usize)>
     requires sorted { IsStrictlySortedBy node_cmp nodes.now }
     requires listed { (x y : Node) → In (x, y) (given_of literal.now) → In x nodes.now × In y nodes.now }
-    ensures within { IfSome result (λ pair. IsWithin (length nodes.now) pair.0 pair.1) }
-    ensures exact { Corresponds (ArePlaces nodes.now) (λ p. In p (given_of literal.now)) (option_to_list result) }
+    ensures { Corresponds (ArePlaces nodes.now) (λ p. In p (given_of literal.now)) (option_to_list result) }
 {
     let Literal::Equal { a, b } = literal else {
         return None;
@@ -181,9 +189,7 @@ fn given_pairs(
 {
     let mut given = Vec::new(alloc);
     for literal in literals {
-        if let Some(pair) = given_pair(nodes, literal) {
-            given.push(pair)?;
-        }
+        push_some(&mut given, given_pair(nodes, literal))?;
     }
     Ok(given)
 }
@@ -244,9 +250,7 @@ fn values_of_classes(
 {
     let mut values = Vec::new(alloc);
     for literal in literals {
-        if let Some(value) = value_of_class(nodes, classes, literal)? {
-            values.push(value)?;
-        }
+        push_some(&mut values, value_of_class(nodes, classes, literal)?)?;
     }
     Ok(values)
 }
@@ -313,9 +317,7 @@ fn members_of_classes(
 {
     let mut members = Vec::new(alloc);
     for literal in literals {
-        if let Some(membership) = member_of_class(nodes, classes, literal) {
-            members.push(membership)?;
-        }
+        push_some(&mut members, member_of_class(nodes, classes, literal))?;
     }
     Ok(members)
 }

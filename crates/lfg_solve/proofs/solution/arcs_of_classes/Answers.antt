@@ -1,0 +1,12 @@
+use Rattle.std.proofs.Common.{List, arith, subst, refl}
+use Rattle.lfg_model.specs.Lists.{In}
+use Rattle.lfg_solve.specs.declared.classes.Arc.{Arc}
+use Rattle.lfg_solve.specs.Numbers.{Corresponds, IsLabelled}
+use Rattle.lfg_solve.proofs.Prefixes.{take_whole}
+use Rattle.lfg_solve.proofs.Solving.{arcs_read}
+use Rattle.lfg_solve.proofs.solution.arcs_of_classes.Goals as goal
+
+pub loop-arc-preserved : goal.loop-arc-preserved
+loop-arc-preserved c =
+    rw c.in_ok-push.ensures.items
+    (arcs_read _ _ _ _ _ _ (omega arith) c.arc-item.is c.loop-arc.invariant (record { start = c.of.ensures; attribute = c.in_ok-clone.ensures.cases; end = c.of-in-loop-arc.ensures }))
