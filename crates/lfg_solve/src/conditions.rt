@@ -1,4 +1,9 @@
-use crate::solution::Solution;
+ghost use Rattle.std.specs.Prelude.{◌≡◌, ◌↔◌, ℕ, IsTrue};
+ghost use Rattle.lfg_solve.specs.Found.{IsMemberIn, IsOther, Leaves, SomeOf, StandsBeside};
+
+use crate::classes::Arc;
+use crate::same::same_constant;
+use crate::solution::{Membership, Solution, Value};
 use lfg_model::Constant;
 use lfg_terms::{Check, Form, Name, Target, Walk};
 use std::alloc::{AllocError, Global};
@@ -6,7 +11,97 @@ use std::alloc::{AllocError, Global};
 /// The attribute whose value is a semantic form.
 pub(crate) const PRED: &str = "PRED";
 
+/// Whether the value is of the class, and another one than the constant.
+fn is_other(value: &Value, class: usize, constant: &Constant) -> bool
+    ensures { IsTrue result ↔ IsOther class constant.now value.now }
+{
+    if value.class != class {
+        return false;
+    }
+    !same_constant(&value.constant, constant)
+}
+
+/// Whether some value of the class is another one than the constant.
+fn has_other_value(values: &[Value], class: usize, constant: &Constant) -> bool
+    ensures { IsTrue result ↔ SomeOf (IsOther class constant.now) values.now }
+{
+    for value in values {
+        if is_other(value, class, constant) {
+            return true;
+        }
+    }
+    false
+}
+
+/// Whether the arc leaves the class.
+fn leaves(arc: &Arc, class: usize) -> bool
+    ensures { IsTrue result ↔ Leaves class arc.now }
+{
+    arc.from == class
+}
+
+/// Whether some arc leaves the class.
+fn has_arc(arcs: &[Arc], class: usize) -> bool
+    ensures { IsTrue result ↔ SomeOf (Leaves class) arcs.now }
+{
+    for arc in arcs {
+        if leaves(arc, class) {
+            return true;
+        }
+    }
+    false
+}
+
+/// Whether the class is the set of the membership.
+fn is_set_of(member: &Membership, class: usize) -> bool
+    ensures { IsTrue result ↔ IsMemberIn class member.now }
+{
+    member.set == class
+}
+
+/// Whether the class has a member.
+fn is_set(members: &[Membership], class: usize) -> bool
+    ensures { IsTrue result ↔ SomeOf (IsMemberIn class) members.now }
+{
+    for member in members {
+        if is_set_of(member, class) {
+            return true;
+        }
+    }
+    false
+}
+
+/// Whether the value stands beside another value of its class, or beside an arc or a member.
+fn is_clashing(value: &Value, values: &[Value], arcs: &[Arc], members: &[Membership]) -> bool
+    ensures { IsTrue result ↔ StandsBeside values.now arcs.now members.now value.now }
+{
+    if has_other_value(values, value.class, &value.constant) {
+        return true;
+    }
+    if has_arc(arcs, value.class) {
+        return true;
+    }
+    is_set(members, value.class)
+}
+
+/// Whether some value stands beside another value of its class, or beside an arc or a member.
+fn has_clashing(values: &[Value], arcs: &[Arc], members: &[Membership]) -> bool
+    ensures { IsTrue result ↔ SomeOf (StandsBeside values.now arcs.now members.now) values.now }
+{
+    for value in values {
+        if is_clashing(value, values, arcs, members) {
+            return true;
+        }
+    }
+    false
+}
+
 impl Solution {
+    ghost use Rattle.std.specs.Prelude.{◌≡◌, ◌↔◌, ℕ, IsTrue, IfNone, IfOk, IfSome, List};
+    ghost use Rattle.lfg_terms.specs.declared.literal.Literal.{Literal};
+    ghost use Rattle.lfg_model.specs.Solve.{Clash, solution};
+    ghost use Rattle.lfg_solve.specs.Solves.{Solves};
+
     /// Where the arc by the attribute leads from the class.
     pub(crate) fn target(&self, class: usize, attribute: &str) -> Option<usize> {
         for arc in &self.arcs {
@@ -50,27 +145,10 @@ impl Solution {
 
     /// Whether some class has two values, or a value together with an arc or a member
     /// (uniqueness, Kaplan and Bresnan 1982).
-    pub fn has_clash(&self) -> bool {
-        for value in &self.values {
-            let class = value.class;
-            if self.has_other_value(class, &value.constant)
-                || self.arcs.iter().any(|arc| arc.from == class)
-                || self.has_member(class)
-            {
-                return true;
-            }
-        }
-        false
-    }
-
-    /// Whether the class has a value other than the constant.
-    fn has_other_value(&self, class: usize, constant: &Constant) -> bool {
-        for value in &self.values {
-            if value.class == class && value.constant != *constant {
-                return true;
-            }
-        }
-        false
+    pub fn has_clash(&self) -> bool
+        ensures { (ls : List Literal) → Solves ls self.now → (IsTrue result ↔ Clash (solution ls)) }
+    {
+        has_clashing(&self.values, &self.arcs, &self.members)
     }
 
     /// The class to which the path leads from the class.

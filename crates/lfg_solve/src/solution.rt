@@ -23,7 +23,7 @@ pub(crate) struct Value {
 }
 
 /// That the class `item` is a member of the class `set`.
-#[derive(Clone, Copy)]
+#[derive(Drop)]
 pub(crate) struct Membership {
     pub item: usize,
     pub set: usize,
