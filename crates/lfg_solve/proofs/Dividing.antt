@@ -46,30 +46,30 @@ Grows-trans g h = record { each = λ i j e. h.each i j (g.each i j e) }
 
 relabelled_cases : (high low x : ℕ) → ((x ≡ high) × (relabelled high low x ≡ low)) ⊎ ((x ≢ high) × (relabelled high low x ≡ x))
 relabelled_cases high low x = elim (cases_Bool (x == high)) [
-    inl t ↦ inl (grind (arith, nat_tests), ap (λ b. cond b low x) t)
+  | inl t ↦ inl (grind (arith, nat_tests), ap (λ b. cond b low x) t)
   | inr f ↦ inr (grind (arith, nat_tests), ap (λ b. cond b low x) f)
-  ]
+]
 
 abbrev Merged : ℕ → ℕ → ℕ → ℕ → Type 0
 Merged high low x y = (x ≡ y) ⊎ (((x ≡ high) × (y ≡ low)) ⊎ ((x ≡ low) × (y ≡ high)))
 
 relabelled_same : (high low x y : ℕ) → relabelled high low x ≡ relabelled high low y → Merged high low x y
 relabelled_same high low x y e = elim (relabelled_cases high low x) [
-    inl a ↦ elim (relabelled_cases high low y) [
-        inl b ↦ inl (a.0 ∙ sym b.0)
-      | inr b ↦ inr (inl (a.0, sym b.1 ∙ sym e ∙ a.1))
-      ]
-  | inr a ↦ elim (relabelled_cases high low y) [
-        inl b ↦ inr (inr (sym a.1 ∙ e ∙ b.1, b.0))
-      | inr b ↦ inl (sym a.1 ∙ e ∙ b.1)
-      ]
+  | inl a ↦ elim (relabelled_cases high low y) [
+    | inl b ↦ inl (a.0 ∙ sym b.0)
+    | inr b ↦ inr (inl (a.0, sym b.1 ∙ sym e ∙ a.1))
   ]
+  | inr a ↦ elim (relabelled_cases high low y) [
+    | inl b ↦ inr (inr (sym a.1 ∙ e ∙ b.1, b.0))
+    | inr b ↦ inl (sym a.1 ∙ e ∙ b.1)
+  ]
+]
 
 -- the labels of a and b are the two that become one
 abbrev pub Two : List ℕ → ℕ → ℕ → ℕ → ℕ → Type 0
 Two labels a b high low =
     ((slice_get labels a ≡ Some high) × (slice_get labels b ≡ Some low))
-  ⊎ ((slice_get labels a ≡ Some low) × (slice_get labels b ≡ Some high))
+    ⊎ ((slice_get labels a ≡ Some low) × (slice_get labels b ≡ Some high))
 
 module _ (labels : List ℕ) (a b high low : ℕ) (less : low < high) (two : Two labels a b high low) where
   new : List ℕ
@@ -95,9 +95,9 @@ module _ (labels : List ℕ) (a b high low : ℕ) (less : low < high) (two : Two
 
   both_by : OneClass new a b
   both_by = elim two [
-      inl t ↦ by_label (at_high a t.0) (at_low b t.1)
+    | inl t ↦ by_label (at_high a t.0) (at_low b t.1)
     | inr t ↦ by_label (at_low a t.0) (at_high b t.1)
-    ]
+  ]
 
   Alone : ℕ → ℕ → Type 0
   Alone i j = OneClass labels i j ⊎ ((OneClass labels i a × OneClass labels b j) ⊎ (OneClass labels i b × OneClass labels a j))
@@ -130,7 +130,7 @@ module _ (labels : List ℕ) (a b high low : ℕ) (less : low < high) (two : Two
     where
       go : (i k : ℕ) → (m : ℕ) × (slice_get labels i ≡ Some m) × (relabelled high low m ≡ k) → (k ≤ i) × (slice_get new k ≡ Some k)
       go i k g = elim (relabelled_cases high low g.0) [
-          inl e ↦
+        | inl e ↦
             let is : low ≡ k = sym e.1 ∙ g.2 in
             let below = (l.each i g.0 g.1).0 in
             let at_most : k ≤ i = omega arith in
@@ -140,7 +140,7 @@ module _ (labels : List ℕ) (a b high low : ℕ) (less : low < high) (two : Two
             let p = l.each i g.0 g.1 in
             let at_most : k ≤ i = omega (arith, p.0) in
             (at_most, subst (λ (x : ℕ). slice_get new x ≡ Some x) is (get-map (relabelled high low) labels g.0 g.0 p.1 ∙ ap (λ x. Some x) e.1))
-        ]
+      ]
 
   pub joins_by : Joins labels a b (map (relabelled high low) labels)
   unfolding new Alone
@@ -166,17 +166,17 @@ module _ (count : ℕ) (given : List (ℕ × ℕ)) (arcs : List Arc) where
   Equal-turned (along e i j) = along (Equal-turned e) j i
 
   pub division_joined : (before after : List ℕ) (a b : ℕ) → IsDivision count given arcs before → EqualNumbers count given arcs a b → Joins before a b after → length after ≡ length before
-    → IsDivision count given arcs after
+      → IsDivision count given arcs after
   division_joined before after a b d e j l = record {
     covers = l ∙ d.covers;
     least = j.least d.least;
     forced = λ i k o. elim (j.alone i k o) [
-        inl s ↦ d.forced i k s
+      | inl s ↦ d.forced i k s
       | inr t ↦ elim t [
-          inl p ↦ joined (d.forced i a p.0) (joined e (d.forced b k p.1))
+        | inl p ↦ joined (d.forced i a p.0) (joined e (d.forced b k p.1))
         | inr p ↦ joined (d.forced i b p.0) (joined (Equal-turned e) (d.forced a k p.1))
-        ]
-      ];
+      ]
+    ];
   }
 
   along_arcs : (arc other : Arc) → In arc arcs → In other arcs → arc.attribute ≡ other.attribute → EqualNumbers count given arcs arc.from other.from → EqualNumbers count given arcs arc.to other.to
@@ -185,7 +185,7 @@ module _ (count : ℕ) (given : List (ℕ × ℕ)) (arcs : List Arc) where
       along h (In-map ends i) k
 
   pub division_along : (before after : List ℕ) (arc other : Arc) → In arc arcs → In other arcs → arc.attribute ≡ other.attribute → OneClass before arc.from other.from
-    → IsDivision count given arcs before → Joins before arc.to other.to after → length after ≡ length before → IsDivision count given arcs after
+      → IsDivision count given arcs before → Joins before arc.to other.to after → length after ≡ length before → IsDivision count given arcs after
   division_along before after arc other i j e o d n l = division_joined before after arc.to other.to d (along_arcs arc other i j e (d.forced arc.from other.from o)) n l
 
   pub In-numbers : (n i : ℕ) → In i (numbers n) → i < n
@@ -227,7 +227,7 @@ given_at : (labels : List ℕ) (a b : ℕ) (p : ℕ × ℕ) → (a, b) ≡ p →
 given_at labels a b p e o = rw (ap (λ q. q.0) e, ap (λ q. q.1) e) o
 
 pub HoldsGiven-more : (given : List (ℕ × ℕ)) (k : ℕ) (d : ℕ × ℕ) (labels : List ℕ) → k < length given → HoldsGiven (take k given) labels → OneClass labels (get_or given k d).0 (get_or given k d).1
-  → HoldsGiven (take (k + 1) given) labels
+    → HoldsGiven (take (k + 1) given) labels
 HoldsGiven-more given k d labels l h o = record {
   each = λ a b i. elim (In-take_more given k d l i) [ inl j ↦ h.each a b j | inr e ↦ given_at labels a b (get_or given k d) e o ];
 }
@@ -239,7 +239,7 @@ Met : List ℕ → Arc → Arc → Type 0
 Met labels arc other = OneClass labels arc.from other.from → arc.attribute ≡ other.attribute → OneClass labels arc.to other.to
 
 pub Meets-more : (labels : List ℕ) (arc : Arc) (arcs : List Arc) (k : ℕ) (d : Arc) → k < length arcs → Meets labels arc (take k arcs)
-  → (OneClass labels arc.from (get_or arcs k d).from → arc.attribute ≡ (get_or arcs k d).attribute → OneClass labels arc.to (get_or arcs k d).to) → Meets labels arc (take (k + 1) arcs)
+    → (OneClass labels arc.from (get_or arcs k d).from → arc.attribute ≡ (get_or arcs k d).attribute → OneClass labels arc.to (get_or arcs k d).to) → Meets labels arc (take (k + 1) arcs)
 unfolding Met
 Meets-more labels arc arcs k d l h m = record {
   each = λ other i. elim (In-take_more arcs k d l i) [ inl j ↦ h.each other j | inr e ↦ subst (λ (o : Arc). Met labels arc o) (sym e) m ];
@@ -249,7 +249,7 @@ pub MeetsAll-none : (labels : List ℕ) (arcs : List Arc) → MeetsAll labels []
 MeetsAll-none labels arcs = record { each = λ arc i. In-nil i }
 
 pub MeetsAll-more : (labels : List ℕ) (front arcs : List Arc) (k : ℕ) (d : Arc) → k < length front → MeetsAll labels (take k front) arcs → Meets labels (get_or front k d) arcs
-  → MeetsAll labels (take (k + 1) front) arcs
+    → MeetsAll labels (take (k + 1) front) arcs
 MeetsAll-more labels front arcs k d l h m = record {
   each = λ arc i. elim (In-take_more front k d l i) [ inl j ↦ h.each arc j | inr e ↦ subst (λ (a : Arc). Meets labels a arcs) (sym e) m ];
 }
@@ -279,9 +279,9 @@ AreOwn-push labels n l o = record { each = λ i k h. elim (get_push labels n i k
 pub numbers-In : (n i : ℕ) → i < n → In i (numbers n)
 numbers-In zero i h = absurd (omega arith)
 numbers-In (suc n) i h = elim (cases_Bool (i == n)) [
-    inl t ↦ let e : i ≡ n = grind (arith, nat_tests) in rw e here
+  | inl t ↦ let e : i ≡ n = grind (arith, nat_tests) in rw e here
   | inr f ↦ let less : i < n = grind (arith, nat_tests) in later (numbers-In n i less)
-  ]
+]
 
 own_forced : (count : ℕ) (given : List (ℕ × ℕ)) (arcs : List Arc) (labels : List ℕ) → length labels ≡ count → AreOwn labels → {i j : ℕ} → OneClass labels i j → EqualNumbers count given arcs i j
 own_forced count given arcs labels l o {i} {j} (by_label {k} h g) =
@@ -303,16 +303,16 @@ pub In-read : {X : Type 0} (xs : List X) (k : ℕ) (x : X) → k < length xs →
 In-read xs k x l e = subst (λ y. In y xs) (sym e) (In-at xs k x l)
 
 pub Meets-read : (labels : List ℕ) (arc : Arc) (arcs : List Arc) (k : ℕ) (x : Arc) → k < length arcs → x ≡ get_or arcs k x → Meets labels arc (take k arcs)
-  → (OneClass labels arc.from x.from → arc.attribute ≡ x.attribute → OneClass labels arc.to x.to) → Meets labels arc (take (k + 1) arcs)
+    → (OneClass labels arc.from x.from → arc.attribute ≡ x.attribute → OneClass labels arc.to x.to) → Meets labels arc (take (k + 1) arcs)
 unfolding Met
 Meets-read labels arc arcs k x l e h m = Meets-more labels arc arcs k x l h (subst (λ (o : Arc). Met labels arc o) e m)
 
 pub MeetsAll-read : (labels : List ℕ) (front arcs : List Arc) (k : ℕ) (x : Arc) → k < length front → x ≡ get_or front k x → MeetsAll labels (take k front) arcs → Meets labels x arcs
-  → MeetsAll labels (take (k + 1) front) arcs
+    → MeetsAll labels (take (k + 1) front) arcs
 MeetsAll-read labels front arcs k x l e h m = MeetsAll-more labels front arcs k x l h (subst (λ (o : Arc). Meets labels o arcs) e m)
 
 pub met_at : (before after : List ℕ) (arc other : Arc) → before ≡ after → (OneClass before arc.from other.from → arc.attribute ≡ other.attribute → OneClass before arc.to other.to)
-  → OneClass after arc.from other.from → arc.attribute ≡ other.attribute → OneClass after arc.to other.to
+    → OneClass after arc.from other.from → arc.attribute ≡ other.attribute → OneClass after arc.to other.to
 unfolding Met
 met_at before after arc other e m = subst (λ (l : List ℕ). Met l arc other) e m
 

@@ -47,3 +47,9 @@ module _ {X : Type 0} (P : X → Type 0) where
 -- an element that is read with a default
 pub get_or-again : {X : Type 0} (xs : List X) (k : ℕ) (d : X) → k < length xs → get_or xs k d ≡ get_or xs k (get_or xs k d)
 get_or-again xs k d l = get_or_default xs k d (get_or xs k d) l
+
+pub among_found : {X : Type 0} (xs : List X) (k : ℕ) (x z : X) → k < length xs → x ≡ get_or xs k x → x ≡ z → IsTrue true ↔ In z xs
+among_found xs k x z l e f = (λ t. subst (λ y. In y xs) f (In-read xs k x l e), λ i. refl)
+
+pub among_none : {X : Type 0} (xs : List X) (k : ℕ) (z : X) → length xs ≤ k → NoneOf (λ y. y ≡ z) (take k xs) → IsTrue false ↔ In z xs
+among_none xs k z l n = (λ t. absurd (false≢true t), λ i. absurd (n.each z (rw (take_whole k xs l) i) refl))

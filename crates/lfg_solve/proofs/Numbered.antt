@@ -41,7 +41,7 @@ module _ (ls : List Literal) (s : Solution) (y : Solves ls s) where
   ends_of_arc x a t (arc e i f) = let r = (y.same x _).0 e in let q = (y.same _ t).0 f in ((r.0, r.1), (q.0, q.2))
 
   pub class_of_arc : (x : Node) (a : Name) (t : Node) → HasArc ls x a t
-    → (i : ℕ) × (j : ℕ) × ClassOf s x i × ClassOf s t j × In (record { from = i; attribute = a; to = j }) s.arcs.items
+      → (i : ℕ) × (j : ℕ) × ClassOf s x i × ClassOf s t j × In (record { from = i; attribute = a; to = j }) s.arcs.items
   class_of_arc x a t h = let r = ends_of_arc x a t h in (r.0.0, r.1.0, r.0.1, r.1.1, (y.arcs r.0.0 a r.1.0).1 (x, t, r.0.1, r.1.1, h))
 
   ends_of_member : (x k : Node) → HasMember ls x k → ((i : ℕ) × ClassOf s x i) × ((m : ℕ) × ClassOf s k m)
@@ -166,13 +166,13 @@ module _ (ls : List Literal) (s : Solution) (y : Solves ls s) where
       record { at = arc_of r.0 g r.1; listed = r.4; holds = record { start = class_once x r.0 i r.2 c; name = refl } }
 
   inner_forth : (x : Node) (i : ℕ) (g : Name) → ClassOf s x i → SomeOf (IsFilledBy s.arcs.items s.members.items i g) s.arcs.items
-    → (t : Node) × HasArc ls x g t × (HasPred (solution ls) t ⊎ IsSet (solution ls) t)
+      → (t : Node) × HasArc ls x g t × (HasPred (solution ls) t ⊎ IsSet (solution ls) t)
   inner_forth x i g c p =
       let u = arc_from_class x i g p.at.to c (leads_at i g p.at p.listed p.holds.leads) in
       (u.0, u.2, filled_forth u.0 p.at.to u.1 p.holds.filled)
 
   inner_back : (x : Node) (i : ℕ) (g : Name) → ClassOf s x i → ((t : Node) × HasArc ls x g t × (HasPred (solution ls) t ⊎ IsSet (solution ls) t))
-    → SomeOf (IsFilledBy s.arcs.items s.members.items i g) s.arcs.items
+      → SomeOf (IsFilledBy s.arcs.items s.members.items i g) s.arcs.items
   inner_back x i g c h =
       let r = class_of_arc x g h.0 h.1 in
       record {
@@ -183,7 +183,7 @@ module _ (ls : List Literal) (s : Solution) (y : Solves ls s) where
 
   -- the form of a node, in numbers
   form_numbers : (x : Node) (form : Form) (h : HasForm (solution ls) x form)
-    → (i : ℕ) × (j : ℕ) × ClassOf s x i × In (arc_of i pred j) s.arcs.items × In (record { class = j; constant = constant.Form form h.site h.index }) s.values.items
+      → (i : ℕ) × (j : ℕ) × ClassOf s x i × In (arc_of i pred j) s.arcs.items × In (record { class = j; constant = constant.Form form h.site h.index }) s.values.items
   form_numbers x form h =
       let r = class_of_arc x pred h.at h.by_pred in
       let v = class_of_value h.at (constant.Form form h.site h.index) h.is_value in
@@ -205,7 +205,7 @@ module _ (ls : List Literal) (s : Solution) (y : Solves ls s) where
   }
 
   functions_at : IsComplete (solution ls) → (x t : Node) (i j : ℕ) → ClassOf s x i → ClassOf s t j → HasArc ls x pred t → (c : Constant) → In (record { class = j; constant = c }) s.values.items
-    → HasFunctionsOf s.arcs.items s.members.items i c
+      → HasFunctionsOf s.arcs.items s.members.items i c
   functions_at k x t i j c d h (constant.Atom a) v = tt
   functions_at k x t i j c d h (constant.Form form site index) v =
       let f : HasForm (solution ls) x form = record { at = t; by_pred = h; site = site; index = index; is_value = value_of_class t j (constant.Form form site index) d v } in
@@ -257,8 +257,8 @@ module _ (ls : List Literal) (s : Solution) (y : Solves ls s) where
     each = λ x t g m h.
         let r = class_of_arc x g t h in
         elim (k.each (arc_of r.0 g r.1) r.4 m) [
-          inl p ↦ inl (governed_forth x r.0 g r.2 p)
-        | inr e ↦ inr (set_forth x r.0 r.2 e.has_member, λ p. e.no_pred (pred_back x r.0 r.2 p))
+          | inl p ↦ inl (governed_forth x r.0 g r.2 p)
+          | inr e ↦ inr (set_forth x r.0 r.2 e.has_member, λ p. e.no_pred (pred_back x r.0 r.2 p))
         ];
   }
 
@@ -267,11 +267,11 @@ module _ (ls : List Literal) (s : Solution) (y : Solves ls s) where
     each = λ e h m.
         let r = (y.arcs e.from e.attribute e.to).0 h in
         elim (k.each r.0 r.1 e.attribute m r.4) [
-          inl p ↦ inl (governed_back r.0 e.from e.attribute r.2 p)
-        | inr q ↦ inr (record { has_member = set_back r.0 e.from r.2 q.0; no_pred = λ p. q.1 (pred_forth r.0 e.from r.2 p) })
+          | inl p ↦ inl (governed_back r.0 e.from e.attribute r.2 p)
+          | inr q ↦ inr (record { has_member = set_back r.0 e.from r.2 q.0; no_pred = λ p. q.1 (pred_forth r.0 e.from r.2 p) })
         ];
   }
 
   pub coherent_by_numbers : (governable : List Name) (r : Bool) → (IsTrue r ↔ EachOf (IsCoherentAt governable s.values.items s.arcs.items s.members.items) s.arcs.items)
-    → IsTrue r ↔ IsCoherent (solution ls) governable
+      → IsTrue r ↔ IsCoherent (solution ls) governable
   coherent_by_numbers governable r t = (λ e. coherent_forth governable (t.0 e), λ k. t.1 (coherent_back governable k))

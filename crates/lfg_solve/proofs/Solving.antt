@@ -80,9 +80,9 @@ steps_In [] q r b h e = no_step q b (sym (In-one h) ∙ e)
     no_step [] b e = cc
     no_step (x ∷ q) b e = cc
 steps_In (a ∷ p) q r b h e = elim (In-cons_cases h) [
-    inl z ↦ no_step q b (sym z ∙ e)
+  | inl z ↦ no_step q b (sym z ∙ e)
   | inr l ↦ let m = In_from_map (λ q. a ∷ q) (prefixes p) l in deeper q m.0 (m.2 ∙ e) (λ q f. steps_In p q m.0 b m.1 f)
-  ]
+]
   where
     no_step : (q : Path) (b : Name) → [] ≡ q ++ b ∷ [] → In (q, b) (steps (a ∷ p))
     no_step [] b e = cc
@@ -99,14 +99,14 @@ steps_In (a ∷ p) q r b h e = elim (In-cons_cases h) [
 In-steps : (p q : Path) (b : Name) → In (q, b) (steps p) → In (q ++ b ∷ []) (prefixes p)
 In-steps [] q b h = In-nil h
 In-steps (a ∷ p) q b h = elim (In-cons_cases h) [
-    inl e ↦ let f : q ≡ [] = ap (λ s. s.0) e in let g : b ≡ a = ap (λ s. s.1) e in rw (f, g) (later (In-map (λ q. a ∷ q) (first p)))
+  | inl e ↦ let f : q ≡ [] = ap (λ s. s.0) e in let g : b ≡ a = ap (λ s. s.1) e in rw (f, g) (later (In-map (λ q. a ∷ q) (first p)))
   | inr l ↦
       let m = In_from_map (λ s. (a ∷ s.0, s.1)) (steps p) l in
       let k : In (a ∷ (m.0.0 ++ m.0.1 ∷ [])) (prefixes (a ∷ p)) = later (In-map (λ q. a ∷ q) (In-steps p m.0.0 m.0.1 m.1)) in
       let f : a ∷ m.0.0 ≡ q = ap (λ s. s.0) m.2 in
       let g : m.0.1 ≡ b = ap (λ s. s.1) m.2 in
       subst (λ (s : Path × Name). In (s.0 ++ s.1 ∷ []) (prefixes (a ∷ p))) (λ i. (f i, g i)) k
-  ]
+]
   where
     first : (p : Path) → In [] (prefixes p)
     first [] = here
@@ -118,8 +118,7 @@ arcs_to_steps (node.At e p) x a t h =
     let m = In_from_map (λ s. (node.At e s.0, s.1, node.At e (s.0 ++ s.1 ∷ []))) (steps p) h in
     let f : node.At e m.0.0 ≡ x = ap (λ r. r.0) m.2 in
     let g : m.0.1 ≡ a = ap (λ r. r.1) m.2 in
-    let k : node.At e (m.0.0 ++ m.0.1 ∷ []) ≡ t = ap (λ r. r.2) m.2 in
-    (
+    let k : node.At e (m.0.0 ++ m.0.1 ∷ []) ≡ t = ap (λ r. r.2) m.2 in (
       subst (λ (n : Node). In n (with_prefixes (node.At e p))) k (In-map (λ q. node.At e q) (In-steps p m.0.0 m.0.1 m.1)),
       record { edge = e; path = m.0.0; start = sym f; end = sym k ∙ (λ i. node.At e (m.0.0 ++ g i ∷ [])) },
     )
@@ -169,20 +168,20 @@ nodes_are ls n = (forth, back)
   where
     forth : In n (defined ls ++ flat_map (λ l. flat_map starts (checks_of l)) ls) → In n (nodes ls)
     forth h = elim (In-append_cases (defined ls) (flat_map (λ l. flat_map starts (checks_of l)) ls) h) [
-        inl a ↦
+      | inl a ↦
           let l = In_from_flat_map (λ l. flat_map with_prefixes (named l)) ls a in
           In-flat_map (λ l. flat_map with_prefixes (named l) ++ flat_map starts (checks_of l)) l.1 (In-append_left _ l.2)
       | inr b ↦
           let l = In_from_flat_map (λ l. flat_map starts (checks_of l)) ls b in
           In-flat_map (λ l. flat_map with_prefixes (named l) ++ flat_map starts (checks_of l)) l.1 (In-append_right (flat_map with_prefixes (named l.0)) l.2)
-      ]
+    ]
 
     back : In n (nodes ls) → In n (defined ls ++ flat_map (λ l. flat_map starts (checks_of l)) ls)
     back h =
         let l = In_from_flat_map (λ l. flat_map with_prefixes (named l) ++ flat_map starts (checks_of l)) ls h in
         elim (In-append_cases (flat_map with_prefixes (named l.0)) (flat_map starts (checks_of l.0)) l.2) [
-          inl a ↦ In-append_left _ (In-flat_map (λ l. flat_map with_prefixes (named l)) l.1 a)
-        | inr b ↦ In-append_right (defined ls) (In-flat_map (λ l. flat_map starts (checks_of l)) l.1 b)
+          | inl a ↦ In-append_left _ (In-flat_map (λ l. flat_map with_prefixes (named l)) l.1 a)
+          | inr b ↦ In-append_right (defined ls) (In-flat_map (λ l. flat_map starts (checks_of l)) l.1 b)
         ]
 
 pub defined_node : (ls : List Literal) (n : Node) → In n (defined ls) → In n (nodes ls)
@@ -225,22 +224,22 @@ member_node ls k x h = let l = In_from_flat_map members_of ls h in let e = membe
 -- ---- what one literal or node gives, in numbers
 
 pub given_here : (table : List Node) (l : Literal) (a b : Node) (i j : ℕ) → l ≡ literal.Equal a b → slice_get table i ≡ Some a → slice_get table j ≡ Some b
-  → Corresponds (ArePlaces table) (λ p. In p (given_of l)) ((i, j) ∷ [])
+    → Corresponds (ArePlaces table) (λ p. In p (given_of l)) ((i, j) ∷ [])
 given_here table l a b i j e h g =
     rw e (Corresponds-one (ArePlaces table) (λ p. In p ((a, b) ∷ [])) (a, b) (i, j) here (λ z k. In-one k) (record { first = h; second = g }))
 
 pub value_here : (table : List Node) (labels : List ℕ) (l : Literal) (n : Node) (c : Constant) (k : ℕ) → values_of l ≡ (n, c) ∷ [] → HasClass table labels n k
-  → Corresponds (IsValueOf table labels) (λ p. In p (values_of l)) (record { class = k; constant = c } ∷ [])
+    → Corresponds (IsValueOf table labels) (λ p. In p (values_of l)) (record { class = k; constant = c } ∷ [])
 value_here table labels l n c k e h =
     rw e (Corresponds-one (IsValueOf table labels) (λ p. In p ((n, c) ∷ [])) (n, c) (record { class = k; constant = c }) here (λ z k. In-one k) (record { class = h; constant = refl }))
 
 pub member_here : (table : List Node) (labels : List ℕ) (l : Literal) (m s : Node) (i j : ℕ) → l ≡ literal.Member m s → HasClass table labels m i → HasClass table labels s j
-  → Corresponds (IsMemberOf table labels) (λ p. In p (members_of l)) (record { item = i; set = j } ∷ [])
+    → Corresponds (IsMemberOf table labels) (λ p. In p (members_of l)) (record { item = i; set = j } ∷ [])
 member_here table labels l m s i j e h g =
     rw e (Corresponds-one (IsMemberOf table labels) (λ p. In p ((m, s) ∷ [])) (m, s) (record { item = i; set = j }) here (λ z k. In-one k) (record { item = h; set = g }))
 
 pub arc_here : (table : List Node) (x : Node) (a : Name) (t : Node) (i j : ℕ) → IsStep x a t → slice_get table i ≡ Some x → slice_get table j ≡ Some t
-  → Corresponds (IsArcOf table) (IsStepTo (t ∷ [])) (record { from = i; attribute = a; to = j } ∷ [])
+    → Corresponds (IsArcOf table) (IsStepTo (t ∷ [])) (record { from = i; attribute = a; to = j } ∷ [])
 arc_here table x a t i j s h g =
     Corresponds-one (IsArcOf table) (IsStepTo (t ∷ [])) (x, a, t) (record { from = i; attribute = a; to = j })
     (record { listed = here; step = s })
@@ -259,15 +258,15 @@ take_split xs k x y l e =
     (In-append_cases (take k xs) (x ∷ []), λ h. elim h [ inl a ↦ In-append_left (x ∷ []) a | inr b ↦ In-append_right (take k xs) b ])
 
 pub steps_read : (table : List Node) (ts : List Node) (k : ℕ) (t : Node) (ys zs : List Arc) → k < length ts → t ≡ get_or ts k t
-  → Corresponds (IsArcOf table) (IsStepTo (take k ts)) ys → Corresponds (IsArcOf table) (IsStepTo (t ∷ [])) zs → Corresponds (IsArcOf table) (IsStepTo (take (k + 1) ts)) (ys ++ zs)
+    → Corresponds (IsArcOf table) (IsStepTo (take k ts)) ys → Corresponds (IsArcOf table) (IsStepTo (t ∷ [])) zs → Corresponds (IsArcOf table) (IsStepTo (take (k + 1) ts)) (ys ++ zs)
 steps_read table ts k t ys zs l e c d =
     Corresponds-both (IsArcOf table) (IsStepTo (take k ts)) (IsStepTo (t ∷ [])) (IsStepTo (take (k + 1) ts)) ys zs
     (λ s. (
       (λ h. elim ((take_split ts k t s.2 l e).0 h.listed) [ inl a ↦ inl (record { listed = a; step = h.step }) | inr b ↦ inr (record { listed = b; step = h.step }) ]),
       (λ h. elim h [
-          inl a ↦ record { listed = (take_split ts k t s.2 l e).1 (inl a.listed); step = a.step }
+        | inl a ↦ record { listed = (take_split ts k t s.2 l e).1 (inl a.listed); step = a.step }
         | inr b ↦ record { listed = (take_split ts k t s.2 l e).1 (inr b.listed); step = b.step }
-        ]),
+      ]),
     ))
     c d
 
@@ -275,7 +274,7 @@ pub no_steps : (table : List Node) → Corresponds (IsArcOf table) (IsStepTo [])
 no_steps table = Corresponds-none (IsArcOf table) (IsStepTo []) (λ s h. In-nil h.listed)
 
 pub arcs_read : (labels : List ℕ) (front : List Arc) (k : ℕ) (old new : Arc) (ys : List Arc) → k < length front → old ≡ get_or front k old
-  → Corresponds (IsLabelled labels) (λ a. In a (take k front)) ys → IsLabelled labels new old → Corresponds (IsLabelled labels) (λ a. In a (take (k + 1) front)) (ys ++ new ∷ [])
+    → Corresponds (IsLabelled labels) (λ a. In a (take k front)) ys → IsLabelled labels new old → Corresponds (IsLabelled labels) (λ a. In a (take (k + 1) front)) (ys ++ new ∷ [])
 arcs_read labels front k old new ys l e c r =
     Corresponds-both (IsLabelled labels) (λ a. In a (take k front)) (λ a. In a (old ∷ [])) (λ a. In a (take (k + 1) front)) ys (new ∷ [])
     (λ a. take_split front k old a l e)
@@ -294,11 +293,10 @@ given_within table P pairs c = All_from_In (λ p. (p.0 < length table) × (p.1 <
 -- ---- the whole
 
 module _ (ls : List Literal) (table : List Node) (pairs : List (ℕ × ℕ)) (numbered : List Arc) (labels : List ℕ)
-  (listed : Lists node_cmp (λ n. In n (nodes ls)) table)
-  (stand : Corresponds (ArePlaces table) (λ p. In p (given ls)) pairs)
-  (lead : Corresponds (IsArcOf table) (λ s. In s (arcs ls)) numbered)
-  (divided : Divides (length table) pairs numbered labels) where
-
+    (listed : Lists node_cmp (λ n. In n (nodes ls)) table)
+    (stand : Corresponds (ArePlaces table) (λ p. In p (given ls)) pairs)
+    (lead : Corresponds (IsArcOf table) (λ s. In s (arcs ls)) numbered)
+    (divided : Divides (length table) pairs numbered labels) where
   SameNumbers : ℕ → ℕ → Type 0
   SameNumbers = EqualNumbers (length table) pairs numbered
 
@@ -360,8 +358,7 @@ module _ (ls : List Literal) (table : List Node) (pairs : List (ℕ × ℕ)) (nu
       let s = lead.sound m.0 m.1 in
       let from : m.0.from ≡ i = ap (λ e. e.0) m.2 in
       let to : m.0.to ≡ t = ap (λ e. e.2) m.2 in
-      let name : s.0.1 ≡ a = sym s.2.attribute ∙ ap (λ e. e.1) m.2 in
-      (
+      let name : s.0.1 ≡ a = sym s.2.attribute ∙ ap (λ e. e.1) m.2 in (
         s.0.0,
         s.0.2,
         subst (λ (k : ℕ). slice_get table k ≡ Some s.0.0) from s.2.start,
@@ -487,10 +484,9 @@ module _ (ls : List Literal) (table : List Node) (pairs : List (ℕ × ℕ)) (nu
         turned_back {x} {z} h = let r = same_forth x z h in same_back z x r.0 r.2 r.1
 
 pub table_lists : (ls : List Literal) (ds table : List Node) → Lists node_cmp (λ n. In n (defined ls)) ds
-  → Lists node_cmp (λ n. In n (ds ++ flat_map (λ l. flat_map starts (checks_of l)) ls)) table → Lists node_cmp (λ n. In n (nodes ls)) table
+    → Lists node_cmp (λ n. In n (ds ++ flat_map (λ l. flat_map starts (checks_of l)) ls)) table → Lists node_cmp (λ n. In n (nodes ls)) table
 table_lists ls ds table d t = record { ascends = t.ascends; exact = λ n. ((λ h. (nodes_are ls n).0 (to n ((t.exact n).0 h))), (λ h. (t.exact n).1 (from n ((nodes_are ls n).1 h)))) }
   where
-
     to : (n : Node) → In n (ds ++ flat_map (λ l. flat_map starts (checks_of l)) ls) → In n (defined ls ++ flat_map (λ l. flat_map starts (checks_of l)) ls)
     to n h = elim (In-append_cases ds (flat_map (λ l. flat_map starts (checks_of l)) ls) h) [ inl a ↦ In-append_left _ ((d.exact n).0 a) | inr b ↦ In-append_right (defined ls) b ]
 
@@ -498,7 +494,7 @@ table_lists ls ds table d t = record { ascends = t.ascends; exact = λ n. ((λ h
     from n h = elim (In-append_cases (defined ls) (flat_map (λ l. flat_map starts (checks_of l)) ls) h) [ inl a ↦ In-append_left _ ((d.exact n).1 a) | inr b ↦ In-append_right ds b ]
 
 pub step_listed : (ls : List Literal) (ds table : List Node) → Lists node_cmp (λ n. In n (defined ls)) ds → Lists node_cmp (λ n. In n (nodes ls)) table
-  → (x : Node) (a : Name) (t : Node) → In t ds → IsStep x a t → In x table
+    → (x : Node) (a : Name) (t : Node) → In t ds → IsStep x a t → In x table
 step_listed ls ds table d t x a n h s =
     let i = (arcs_are_steps ls ds d.exact (x, a, n)).0 (record { listed = h; step = s }) in
     (t.exact x).1 ((literals_between ls).arc_ends x a n i).0
@@ -513,11 +509,11 @@ pub member_listed : (ls : List Literal) (table : List Node) → Lists node_cmp (
 member_listed ls table t k x h = let e = member_node ls k x h in ((t.exact k).1 e.0, (t.exact x).1 e.1)
 
 pub solves : (ls : List Literal) (s : Solution) (ds : List Node) (pairs : List (ℕ × ℕ)) (numbered : List Arc)
-  → Lists node_cmp (λ n. In n (defined ls)) ds → Lists node_cmp (λ n. In n (nodes ls)) s.nodes.items
-  → Corresponds (ArePlaces s.nodes.items) (λ p. In p (given ls)) pairs → Corresponds (IsArcOf s.nodes.items) (IsStepTo ds) numbered
-  → Divides (length s.nodes.items) pairs numbered s.classes → Corresponds (IsLabelled s.classes) (λ a. In a numbered) s.arcs.items
-  → Corresponds (IsValueOf s.nodes.items s.classes) (λ p. In p (values ls)) s.values.items → Corresponds (IsMemberOf s.nodes.items s.classes) (λ p. In p (members ls)) s.members.items
-  → Solves ls s
+    → Lists node_cmp (λ n. In n (defined ls)) ds → Lists node_cmp (λ n. In n (nodes ls)) s.nodes.items
+    → Corresponds (ArePlaces s.nodes.items) (λ p. In p (given ls)) pairs → Corresponds (IsArcOf s.nodes.items) (IsStepTo ds) numbered
+    → Divides (length s.nodes.items) pairs numbered s.classes → Corresponds (IsLabelled s.classes) (λ a. In a numbered) s.arcs.items
+    → Corresponds (IsValueOf s.nodes.items s.classes) (λ p. In p (values ls)) s.values.items → Corresponds (IsMemberOf s.nodes.items s.classes) (λ p. In p (members ls)) s.members.items
+    → Solves ls s
 solves ls s ds pairs numbered d t stand steps divided labelled values members =
     let lead : Corresponds (IsArcOf s.nodes.items) (λ e. In e (arcs ls)) numbered = Corresponds-iff (IsArcOf s.nodes.items) (IsStepTo ds) (λ e. In e (arcs ls)) numbered (arcs_are_steps ls ds d.exact) steps in
     record {

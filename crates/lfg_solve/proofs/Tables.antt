@@ -58,9 +58,9 @@ module _ {X : Type 0} (cmp : X → X → Ordering) (total : IsTotalOrder cmp) wh
 
     rises : (xs : List X) (x : X) → IsStrictlySortedBy cmp xs → IsNonDecreasingBy (λ y. ordering_index (cmp y x)) xs
     rises xs x s i j d l h = elim (le_cases i j l) [
-        inl e ↦ rw e (omega arith)
+      | inl e ↦ rw e (omega arith)
       | inr b ↦ index_le (get_or xs i d) (get_or xs j d) x (Less-from_sorted cmp xs i j d s b h)
-      ]
+    ]
       where
         le_cases : (i j : ℕ) → i ≤ j → (i ≡ j) ⊎ (i < j)
         le_cases i j l = grind arith
@@ -77,14 +77,14 @@ module _ {X : Type 0} (cmp : X → X → Ordering) (total : IsTotalOrder cmp) wh
 
     -- where a search finds no place, the element is not there
     pub not_there : (xs : List X) (x : X) (i : ℕ) → IsStrictlySortedBy cmp xs
-      → (IsNonDecreasingBy (λ y. ordering_index (cmp y x)) xs → IsPartitionPoint (λ y. cmp y x ≡ Less) (λ y. cmp y x ≡ Greater) xs i) → ¬ In x xs
+        → (IsNonDecreasingBy (λ y. ordering_index (cmp y x)) xs → IsPartitionPoint (λ y. cmp y x ≡ Less) (λ y. cmp y x ≡ Greater) xs i) → ¬ In x xs
     not_there xs x i s point h =
         let p = point (rises xs x s) in
         let at = In-place h in
         let same : cmp (get_or xs at.0 x) x ≡ Equal = rw (at.2 x) (same_itself x) in
         elim (sides at.0 i) [
-          inl l ↦ let e : cmp (get_or xs at.0 x) x ≡ Less = p.0 at.0 x (omega arith) l in let no : Less ≡ Equal = sym e ∙ same in cc
-        | inr l ↦ let e : cmp (get_or xs at.0 x) x ≡ Greater = p.1 at.0 x l at.1 in let no : Greater ≡ Equal = sym e ∙ same in cc
+          | inl l ↦ let e : cmp (get_or xs at.0 x) x ≡ Less = p.0 at.0 x (omega arith) l in let no : Less ≡ Equal = sym e ∙ same in cc
+          | inr l ↦ let e : cmp (get_or xs at.0 x) x ≡ Greater = p.1 at.0 x l at.1 in let no : Greater ≡ Equal = sym e ∙ same in cc
         ]
       where
         sides : (k i : ℕ) → (k < i) ⊎ (i ≤ k)
@@ -114,18 +114,18 @@ module _ {X Y : Type 0} (R : Y → X → Type 0) where
   pub Corresponds-both : (P Q S : X → Type 0) (ys zs : List Y) → ((x : X) → S x ↔ (P x ⊎ Q x)) → Corresponds R P ys → Corresponds R Q zs → Corresponds R S (ys ++ zs)
   Corresponds-both P Q S ys zs split c d = record {
     sound = λ y i. elim (In-append_cases ys zs i) [
-        inl a ↦ let s = c.sound y a in (s.0, (split s.0).1 (inl s.1), s.2)
+      | inl a ↦ let s = c.sound y a in (s.0, (split s.0).1 (inl s.1), s.2)
       | inr b ↦ let s = d.sound y b in (s.0, (split s.0).1 (inr s.1), s.2)
-      ];
+    ];
     all = λ x p. elim ((split x).0 p) [
-        inl a ↦ let s = c.all x a in (s.0, In-append_left zs s.1, s.2)
+      | inl a ↦ let s = c.all x a in (s.0, In-append_left zs s.1, s.2)
       | inr b ↦ let s = d.all x b in (s.0, In-append_right ys s.1, s.2)
-      ];
+    ];
   }
 
   -- one more element of a list that is read
   pub Corresponds-read : {Z : Type 0} (f : Z → List X) (ls : List Z) (k : ℕ) (z : Z) (ys zs : List Y) → k < length ls → z ≡ get_or ls k z
-    → Corresponds R (λ x. In x (flat_map f (take k ls))) ys → Corresponds R (λ x. In x (f z)) zs → Corresponds R (λ x. In x (flat_map f (take (k + 1) ls))) (ys ++ zs)
+      → Corresponds R (λ x. In x (flat_map f (take k ls))) ys → Corresponds R (λ x. In x (f z)) zs → Corresponds R (λ x. In x (flat_map f (take (k + 1) ls))) (ys ++ zs)
   Corresponds-read f ls k z ys zs l e c d =
       Corresponds-both (λ x. In x (flat_map f (take k ls))) (λ x. In x (f z)) (λ x. In x (flat_map f (take (k + 1) ls))) ys zs split c d
     where

@@ -35,9 +35,7 @@ impl Classes {
     /// Each number below `count` in a class of its own.
     pub fn new(alloc: Global, count: usize) -> Result<Classes, AllocError>
         ensures length { IfOk result (λ classes. length classes ≡ count) }
-        ensures alone {
-            IfOk result (λ classes. (given : List (ℕ × ℕ)) (arcs : List Arc) → IsDivision count given arcs classes)
-        }
+        ensures alone { IfOk result (λ classes. (given : List (ℕ × ℕ)) (arcs : List Arc) → IsDivision count given arcs classes) }
     {
         let mut labels = Vec::new(alloc);
         for number in 0..count {
@@ -112,15 +110,11 @@ fn join_ends(classes: &mut Classes, arc: &Arc, other: &Arc) -> bool
     ensures less { total classes.new ≤ total classes.old }
     ensures fewer { IsTrue result → total classes.new < total classes.old }
     ensures grown { Grows classes.old classes.new }
-    ensures forced {
-        (count : ℕ) (given : List (ℕ × ℕ)) (arcs : List Arc) → In arc.now arcs → In other.now arcs
-        → IsDivision count given arcs classes.old → IsDivision count given arcs classes.new
-    }
+    ensures forced { (count : ℕ) (given : List (ℕ × ℕ)) (arcs : List Arc) → In arc.now arcs → In other.now arcs
+        → IsDivision count given arcs classes.old → IsDivision count given arcs classes.new }
     ensures unchanged { result ≡ false → classes.new ≡ classes.old }
-    ensures met {
-        result ≡ false → OneClass classes.old arc.now.from other.now.from
-        → arc.now.attribute ≡ other.now.attribute → OneClass classes.old arc.now.to other.now.to
-    }
+    ensures met { result ≡ false → OneClass classes.old arc.now.from other.now.from
+        → arc.now.attribute ≡ other.now.attribute → OneClass classes.old arc.now.to other.now.to }
 {
     if classes.of(arc.from) != classes.of(other.from) {
         return false;
@@ -142,10 +136,8 @@ fn join_target(classes: &mut Classes, arcs: &[Arc], arc: &Arc) -> bool
     ensures less { total classes.new ≤ total classes.old }
     ensures fewer { IsTrue result → total classes.new < total classes.old }
     ensures grown { Grows classes.old classes.new }
-    ensures forced {
-        (count : ℕ) (given : List (ℕ × ℕ)) → IsDivision count given arcs.now classes.old
-        → IsDivision count given arcs.now classes.new
-    }
+    ensures forced { (count : ℕ) (given : List (ℕ × ℕ)) → IsDivision count given arcs.now classes.old
+        → IsDivision count given arcs.now classes.new }
     ensures unchanged { result ≡ false → classes.new ≡ classes.old }
     ensures met { result ≡ false → Meets classes.old arc.now arcs.now }
 {
@@ -164,10 +156,8 @@ fn join_targets(classes: &mut Classes, arcs: &[Arc]) -> bool
     ensures less { total classes.new ≤ total classes.old }
     ensures fewer { IsTrue result → total classes.new < total classes.old }
     ensures grown { Grows classes.old classes.new }
-    ensures forced {
-        (count : ℕ) (given : List (ℕ × ℕ)) → IsDivision count given arcs.now classes.old
-        → IsDivision count given arcs.now classes.new
-    }
+    ensures forced { (count : ℕ) (given : List (ℕ × ℕ)) → IsDivision count given arcs.now classes.old
+        → IsDivision count given arcs.now classes.new }
     ensures unchanged { result ≡ false → classes.new ≡ classes.old }
     ensures met { result ≡ false → MeetsAll classes.old arcs.now arcs.now }
 {
@@ -182,10 +172,8 @@ fn join_targets(classes: &mut Classes, arcs: &[Arc]) -> bool
 fn join_given(classes: &mut Classes, given: &[(usize, usize)])
     requires { GivenWithin (length classes.old) given.now }
     ensures length { length classes.new ≡ length classes.old }
-    ensures forced {
-        (count : ℕ) (arcs : List Arc) → IsDivision count given.now arcs classes.old
-        → IsDivision count given.now arcs classes.new
-    }
+    ensures forced { (count : ℕ) (arcs : List Arc) → IsDivision count given.now arcs classes.old
+        → IsDivision count given.now arcs classes.new }
     ensures given { HoldsGiven given.now classes.new }
 {
     for (a, b) in given {

@@ -4,7 +4,7 @@ ghost use Rattle.lfg_model.specs.Solve.{pred};
 ghost use Rattle.lfg_solve.specs.Found.{EachOf, HasFunctions, HasFunctionsOf, IsCoherentAt, IsCompleteAt, IsExempt, IsFilled, IsFilledBy, IsGovernedBy, IsMemberIn, IsMet, IsNaming, IsOther, LeadsBy, Leaves, Names, SomeOf, StandsBeside};
 
 use crate::classes::Arc;
-use crate::same::same_constant;
+use crate::same::{same_constant, same_name};
 use crate::solution::{Membership, Solution, Value};
 use lfg_model::Constant;
 use lfg_terms::{Check, Form, Name, Target, Walk};
@@ -166,12 +166,7 @@ fn has_filled(arcs: &[Arc], members: &[Membership], class: usize, function: &Nam
 }
 
 /// Whether the class has each of the functions, with a form or a member.
-fn has_each_filled(
-    arcs: &[Arc],
-    members: &[Membership],
-    class: usize,
-    functions: &[Name],
-) -> bool
+fn has_each_filled(arcs: &[Arc], members: &[Membership], class: usize, functions: &[Name]) -> bool
     ensures { IsTrue result ↔ EachOf (λ g. SomeOf (IsFilledBy arcs.now members.now class g) arcs.now) functions.now }
 {
     for function in functions {
@@ -212,12 +207,7 @@ fn has_functions(arcs: &[Arc], members: &[Membership], class: usize, form: &Form
 }
 
 /// Whether the class has all functions that the constant names.
-fn has_functions_of(
-    arcs: &[Arc],
-    members: &[Membership],
-    class: usize,
-    constant: &Constant,
-) -> bool
+fn has_functions_of(arcs: &[Arc], members: &[Membership], class: usize, constant: &Constant) -> bool
     ensures { IsTrue result ↔ HasFunctionsOf arcs.now members.now class constant.now }
 {
     match constant {
@@ -227,13 +217,7 @@ fn has_functions_of(
 }
 
 /// Whether the class has all functions that the value names, if it is one of the class `target`.
-fn is_met(
-    value: &Value,
-    arcs: &[Arc],
-    members: &[Membership],
-    class: usize,
-    target: usize,
-) -> bool
+fn is_met(value: &Value, arcs: &[Arc], members: &[Membership], class: usize, target: usize) -> bool
     ensures { IsTrue result ↔ IsMet arcs.now members.now class target value.now }
 {
     if value.class != target {
@@ -287,7 +271,7 @@ fn is_among(names: &[Name], name: &Name) -> bool
     ensures { IsTrue result ↔ In name.now names.now }
 {
     for other in names {
-        if other.text() == name.text() {
+        if same_name(other, name) {
             return true;
         }
     }
@@ -543,9 +527,7 @@ impl Solution {
     /// that has members and no form is exempt (coherence, after Kaplan and Bresnan 1982; the case
     /// of sets is this project's own).
     pub fn is_coherent(&self, governable: &[Name]) -> bool
-        ensures {
-            (ls : List Literal) → Solves ls self.now → (IsTrue result ↔ IsCoherent (solution ls) governable.now)
-        }
+        ensures { (ls : List Literal) → Solves ls self.now → (IsTrue result ↔ IsCoherent (solution ls) governable.now) }
     {
         is_each_coherent(governable, &self.values, &self.arcs, &self.members)
     }

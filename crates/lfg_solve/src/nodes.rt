@@ -78,10 +78,8 @@ fn push_both(alloc: Global, nodes: &mut Vec<Node>, a: &Node, b: &Node) -> Result
 
 /// The nodes of the defining literals with all nodes on the way to them, in order, each once.
 pub(crate) fn defined_nodes(alloc: Global, literals: &[Literal]) -> Result<Vec<Node>, AllocError>
-    ensures {
-        IfOk result (λ defined. Lists node_cmp
-            (λ n. In n (flat_map (λ l. flat_map with_prefixes (named l)) literals.now)) defined.items)
-    }
+    ensures { IfOk result (λ defined. Lists node_cmp
+        (λ n. In n (flat_map (λ l. flat_map with_prefixes (named l)) literals.now)) defined.items) }
 {
     let mut nodes = Vec::new(alloc);
     for literal in literals {
@@ -96,10 +94,8 @@ pub(crate) fn with_starts(
     defined: &[Node],
     literals: &[Literal],
 ) -> Result<Vec<Node>, AllocError>
-    ensures {
-        IfOk result (λ all. Lists node_cmp
-            (λ n. In n (defined.now ++ flat_map (λ l. flat_map starts (checks_of l)) literals.now)) all.items)
-    }
+    ensures { IfOk result (λ all. Lists node_cmp
+        (λ n. In n (defined.now ++ flat_map (λ l. flat_map starts (checks_of l)) literals.now)) all.items) }
 {
     let mut nodes = copied(alloc, defined)?;
     for literal in literals {

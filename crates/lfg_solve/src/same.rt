@@ -71,3 +71,10 @@ fn same_edge(a: &Edge, b: &Edge) -> bool
 {
     a == b
 }
+
+/// Whether the two names are one.
+pub(crate) fn same_name(a: &Name, b: &Name) -> bool
+    ensures { IsTrue result ↔ (a.now ≡ b.now) }
+{
+    a.text() == b.text()
+}

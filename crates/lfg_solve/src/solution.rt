@@ -75,9 +75,7 @@ impl Solution {
     /// The class of the node, if it is one of the solution's nodes.
     pub(crate) fn class_of(&self, node: &Node) -> Option<usize>
         ensures found { IfSome result (ClassOf self.now node.now) }
-        ensures missing {
-            IfNone result ((ls : List Literal) → Solves ls self.now → (class : ℕ) → ¬ ClassOf self.now node.now class)
-        }
+        ensures missing { IfNone result ((ls : List Literal) → Solves ls self.now → (class : ℕ) → ¬ ClassOf self.now node.now class) }
     {
         class_in(&self.nodes, &self.classes, node)
     }
@@ -95,10 +93,8 @@ fn place_of(nodes: &[Node], node: &Node) -> Option<usize>
 /// The class of the node, if it is one of the nodes.
 fn class_in(nodes: &[Node], classes: &Classes, node: &Node) -> Option<usize>
     ensures found { IfSome result (HasClass nodes.now classes.now node.now) }
-    ensures missing {
-        IfNone result (IsStrictlySortedBy node_cmp nodes.now → length classes.now ≡ length nodes.now
-            → ¬ In node.now nodes.now)
-    }
+    ensures missing { IfNone result (IsStrictlySortedBy node_cmp nodes.now → length classes.now ≡ length nodes.now
+        → ¬ In node.now nodes.now) }
 {
     match place_of(nodes, node) {
         Some(place) if place < classes.count() => Some(classes.of(place)),
@@ -121,9 +117,7 @@ fn last_arc(alloc: Global, nodes: &[Node], node: &Node) -> Result<Option<Arc>, A
     requires sorted { IsStrictlySortedBy node_cmp nodes.now }
     requires listed { In node.now nodes.now }
     requires before { (x : Node) (a : Name) → IsStep x a node.now → In x nodes.now }
-    ensures {
-        IfOk result (λ found. Corresponds (IsArcOf nodes.now) (IsStepTo (node.now ∷ [])) (option_to_list found))
-    }
+    ensures { IfOk result (λ found. Corresponds (IsArcOf nodes.now) (IsStepTo (node.now ∷ [])) (option_to_list found)) }
 {
     let Some((before, attribute)) = last_step(alloc, node)? else {
         return Ok(None);
@@ -183,9 +177,7 @@ fn given_pairs(
     requires sorted { IsStrictlySortedBy node_cmp nodes.now }
     requires listed { (x y : Node) → In (x, y) (given literals.now) → In x nodes.now × In y nodes.now }
     ensures within { IfOk result (λ given. GivenWithin (length nodes.now) given.items) }
-    ensures exact {
-        IfOk result (λ pairs. Corresponds (ArePlaces nodes.now) (λ p. In p (given literals.now)) pairs.items)
-    }
+    ensures exact { IfOk result (λ pairs. Corresponds (ArePlaces nodes.now) (λ p. In p (given literals.now)) pairs.items) }
 {
     let mut given = Vec::new(alloc);
     for literal in literals {
@@ -219,10 +211,8 @@ fn value_of_class(
     requires sorted { IsStrictlySortedBy node_cmp nodes.now }
     requires covers { length classes.now ≡ length nodes.now }
     requires listed { (x : Node) (c : Constant) → In (x, c) (values_of literal.now) → In x nodes.now }
-    ensures {
-        IfOk result (λ found. Corresponds (IsValueOf nodes.now classes.now)
-            (λ p. In p (values_of literal.now)) (option_to_list found))
-    }
+    ensures { IfOk result (λ found. Corresponds (IsValueOf nodes.now classes.now)
+        (λ p. In p (values_of literal.now)) (option_to_list found)) }
 {
     let Some((node, constant)) = value_of(literal)? else {
         return Ok(None);
@@ -243,10 +233,8 @@ fn values_of_classes(
     requires sorted { IsStrictlySortedBy node_cmp nodes.now }
     requires covers { length classes.now ≡ length nodes.now }
     requires listed { (x : Node) (c : Constant) → In (x, c) (values literals.now) → In x nodes.now }
-    ensures {
-        IfOk result (λ found. Corresponds (IsValueOf nodes.now classes.now)
-            (λ p. In p (values literals.now)) found.items)
-    }
+    ensures { IfOk result (λ found. Corresponds (IsValueOf nodes.now classes.now)
+        (λ p. In p (values literals.now)) found.items) }
 {
     let mut values = Vec::new(alloc);
     for literal in literals {
@@ -284,9 +272,7 @@ fn member_of_class(nodes: &[Node], classes: &Classes, literal: &Literal) -> Opti
     requires sorted { IsStrictlySortedBy node_cmp nodes.now }
     requires covers { length classes.now ≡ length nodes.now }
     requires listed { (k x : Node) → In (k, x) (members_of literal.now) → In k nodes.now × In x nodes.now }
-    ensures {
-        Corresponds (IsMemberOf nodes.now classes.now) (λ p. In p (members_of literal.now)) (option_to_list result)
-    }
+    ensures { Corresponds (IsMemberOf nodes.now classes.now) (λ p. In p (members_of literal.now)) (option_to_list result) }
 {
     let Literal::Member { item, set } = literal else {
         return None;
@@ -310,10 +296,8 @@ fn members_of_classes(
     requires sorted { IsStrictlySortedBy node_cmp nodes.now }
     requires covers { length classes.now ≡ length nodes.now }
     requires listed { (k x : Node) → In (k, x) (members literals.now) → In k nodes.now × In x nodes.now }
-    ensures {
-        IfOk result (λ found. Corresponds (IsMemberOf nodes.now classes.now)
-            (λ p. In p (members literals.now)) found.items)
-    }
+    ensures { IfOk result (λ found. Corresponds (IsMemberOf nodes.now classes.now)
+        (λ p. In p (members literals.now)) found.items) }
 {
     let mut members = Vec::new(alloc);
     for literal in literals {

@@ -18,9 +18,9 @@ loop-other-preserved c = record {
   length = c.join_ends-joined.ensures.length ∙ c.loop-other.invariant.length;
   less = omega arith;
   fewer = λ t. elim (or_true _ _ t) [
-      inl a ↦ let f = c.loop-other.invariant.fewer a in omega arith
+    | inl a ↦ let f = c.loop-other.invariant.fewer a in omega arith
     | inr b ↦ let f = c.join_ends-joined.ensures.fewer b in omega arith
-    ];
+  ];
   grown = Grows-trans c.loop-other.invariant.grown c.join_ends-joined.ensures.grown;
   forced = λ count given d. c.join_ends-joined.ensures.forced count given c.args.arcs.now c.requires.listed (In-read _ _ _ (omega arith) c.other-item.is) (c.loop-other.invariant.forced count given d);
   unchanged = λ e. let b = or_false _ _ e in c.join_ends-joined.ensures.unchanged b.1 ∙ c.loop-other.invariant.unchanged b.0;

@@ -22,9 +22,9 @@ loop-arc-preserved c = record {
   length = c.join_target-joined.ensures.length ∙ c.loop-arc.invariant.length;
   less = omega arith;
   fewer = λ t. elim (or_true _ _ t) [
-      inl a ↦ let f = c.loop-arc.invariant.fewer a in omega arith
+    | inl a ↦ let f = c.loop-arc.invariant.fewer a in omega arith
     | inr b ↦ let f = c.join_target-joined.ensures.fewer b in omega arith
-    ];
+  ];
   grown = Grows-trans c.loop-arc.invariant.grown c.join_target-joined.ensures.grown;
   forced = λ count given d. c.join_target-joined.ensures.forced count given (c.loop-arc.invariant.forced count given d);
   unchanged = λ e. let b = or_false _ _ e in c.join_target-joined.ensures.unchanged b.1 ∙ c.loop-arc.invariant.unchanged b.0;

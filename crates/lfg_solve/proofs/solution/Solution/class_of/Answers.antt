@@ -11,7 +11,7 @@ use Rattle.lfg_solve.proofs.Tables.{get_In}
 use Rattle.lfg_solve.proofs.solution.Solution.class_of.Goals as goal
 
 without_class : (s : Solution) (n : Node) (table : List Node) (o : Option ℕ) → table ≡ s.nodes.items
-  → IfNone o (IsStrictlySortedBy node_cmp table → length s.classes ≡ length table → ¬ In n table) → IfNone o ((ls : List Literal) → Solves ls s → (class : ℕ) → ¬ ClassOf s n class)
+    → IfNone o (IsStrictlySortedBy node_cmp table → length s.classes ≡ length table → ¬ In n table) → IfNone o ((ls : List Literal) → Solves ls s → (class : ℕ) → ¬ ClassOf s n class)
 without_class s n table None e h = λ ls y class k. (rw e at h) y.nodes.ascends y.covers (get_In s.nodes.items k.number n k.node)
 without_class s n table (Some i) e h = tt
 
