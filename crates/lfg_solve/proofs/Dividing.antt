@@ -1,11 +1,11 @@
 -- What joining two classes does, and when the classes are complete.
-use Rattle.std.proofs.Common.{◌≡◌, ℕ, zero, suc, ◌+◌, ◌<◌, ◌≤◌, Bool, true, false, cond, List, [], ◌∷◌, ◌++◌, map, Some, None, length, get_or, take, refl, sym, ap, subst, ◌∙◌, arith, inl, inr, ◌⊎◌}
-use Rattle.std.specs.Prelude.{slice_get, ◌==◌, ◌≢◌, ◌↔◌, ◌||◌}
-use Rattle.std.proofs.lemmas.Bool.{cases_Bool, false≢true}
+use Rattle.std.proofs.Common.{◌≡◌, ℕ, zero, suc, ◌+◌, ◌<◌, ◌≤◌, Bool, true, false, cond, List, [], ◌∷◌, ◌++◌, map, Some, length, get_or, take, refl, sym, ap, subst, ◌∙◌, arith, inl, inr, ◌⊎◌}
+use Rattle.std.specs.Prelude.{slice_get, ◌==◌, ◌≢◌, ◌||◌}
+use Rattle.std.proofs.lemmas.Bool.{cases_Bool}
 use Rattle.std.proofs.lemmas.Bool.Decides.{nat_tests}
 use Rattle.std.proofs.lemmas.Option.{same_Some, slice_get-get_or, slice_get_within}
 use Rattle.lfg_model.specs.Lists.{In, here, later}
-use Rattle.lfg_model.specs.Equal.{Equal, itself, stated, turned, joined, along}
+use Rattle.lfg_model.specs.Equal.{itself, stated, turned, joined, along}
 use Rattle.lfg_model.specs.Terms.{Name}
 use Rattle.lfg_model.proofs.ListLaws.{In-at, In-map, In_from_map, In-nil, In-take_more, In-cons_cases}
 use Rattle.lfg_solve.specs.declared.classes.Arc.{Arc}

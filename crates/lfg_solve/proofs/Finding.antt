@@ -1,10 +1,10 @@
 -- Searches through lists.
-use Rattle.std.proofs.Common.{◌≡◌, ℕ, ◌+◌, ◌<◌, ◌≤◌, Bool, true, false, IsTrue, List, [], ◌∷◌, length, take, get_or, refl, sym, ap, subst, ◌∙◌, arith, inl, inr, ◌⊎◌}
+use Rattle.std.proofs.Common.{◌≡◌, ℕ, ◌+◌, ◌<◌, ◌≤◌, Bool, true, false, IsTrue, List, [], length, take, get_or, refl, sym, subst, ◌∙◌, inl, inr}
 use Rattle.std.specs.Prelude.{◌↔◌}
-use Rattle.std.proofs.lemmas.Bool.{cases_Bool, false≢true}
+use Rattle.std.proofs.lemmas.Bool.{false≢true}
 use Rattle.std.proofs.lemmas.List.{get_or_default}
 use Rattle.lfg_model.specs.Lists.{In}
-use Rattle.lfg_model.proofs.ListLaws.{In-nil, In-take_more, In-take}
+use Rattle.lfg_model.proofs.ListLaws.{In-nil, In-take_more}
 use Rattle.lfg_solve.specs.Found.{SomeOf, EachOf}
 use Rattle.lfg_solve.proofs.Dividing.{In-read}
 use Rattle.lfg_solve.proofs.Prefixes.{take_whole}

@@ -1,6 +1,6 @@
 -- The conditions on a solution, by its numbers.
-use Rattle.std.proofs.Common.{◌≡◌, ℕ, zero, suc, ◌<◌, ◌≤◌, Bool, true, false, IsTrue, List, [], ◌∷◌, length, Some, refl, sym, ap, subst, ◌∙◌, arith, inl, inr, ◌⊎◌}
-use Rattle.std.specs.Prelude.{◌↔◌, ◌≢◌, slice_get}
+use Rattle.std.proofs.Common.{◌≡◌, ℕ, Bool, IsTrue, List, Some, refl, sym, subst, inl, inr, ◌⊎◌}
+use Rattle.std.specs.Prelude.{◌↔◌, slice_get}
 use Rattle.lfg_terms.specs.Order.{node_cmp}
 use Rattle.lfg_terms.specs.OrderLaws.{node_cmp_total}
 use Rattle.lfg_terms.specs.declared.node.Node.{Node}
@@ -9,15 +9,13 @@ use Rattle.lfg_model.specs.declared.constant.Constant.{Constant}
 use Rattle.lfg_model.specs.declared.constant.Constant.TheVariants as constant
 use Rattle.lfg_terms.specs.declared.grammar.Form.{Form}
 use Rattle.lfg_model.specs.Lists.{In}
-use Rattle.lfg_model.specs.Terms.{Name, Path}
+use Rattle.lfg_model.specs.Terms.{Name}
 use Rattle.lfg_model.specs.Solve.{pred, HasPred, IsSet, HasForm, IsComplete, IsGoverned, IsCoherent, Clash, two_values, beside_arc, beside_member, SameNode, HasArc, arc, HasValue, value, HasMember, member, solution}
-use Rattle.lfg_model.proofs.SolutionLaws.{IsOfClasses, solution_of_classes, Equal-sym}
+use Rattle.lfg_model.proofs.SolutionLaws.{IsOfClasses, solution_of_classes}
 use Rattle.lfg_solve.specs.declared.solution.Solution.{Solution}
 use Rattle.lfg_solve.specs.declared.classes.Arc.{Arc}
 use Rattle.lfg_solve.specs.declared.solution.Value.{Value}
-use Rattle.lfg_solve.specs.declared.solution.Membership.{Membership}
-use Rattle.lfg_solve.specs.Found.{SomeOf, EachOf, IsOther, Leaves, LeadsBy, IsMemberIn, StandsBeside, IsFilled, IsFilledBy, HasFunctions, HasFunctionsOf, IsMet, IsCompleteAt, Names, IsNaming, IsGovernedBy, IsExempt, IsCoherentAt}
-use Rattle.lfg_solve.specs.Numbers.{HasClass}
+use Rattle.lfg_solve.specs.Found.{SomeOf, EachOf, LeadsBy, IsMemberIn, StandsBeside, IsFilled, IsFilledBy, HasFunctions, HasFunctionsOf, IsCompleteAt, Names, IsGovernedBy, IsCoherentAt}
 use Rattle.lfg_solve.specs.Solves.{ClassOf, Solves}
 use Rattle.lfg_solve.proofs.Tables.{one_at, one_place}
 

@@ -1,9 +1,8 @@
 -- The numbers of a solution are the solution.
-use Rattle.std.proofs.Common.{◌≡◌, ℕ, zero, suc, ◌+◌, ◌<◌, ◌≤◌, List, [], ◌∷◌, ◌++◌, map, length, take, get_or, Option, Some, None, refl, sym, ap, subst, ◌∙◌, arith, inl, inr, ◌⊎◌, All}
+use Rattle.std.proofs.Common.{◌≡◌, ℕ, zero, suc, ◌+◌, ◌<◌, List, [], ◌∷◌, ◌++◌, map, length, take, get_or, Option, Some, None, refl, sym, ap, subst, ◌∙◌, arith, inl, inr, ◌⊎◌, All}
 use Rattle.std.specs.Prelude.{◌↔◌, slice_get, IfSome, IfNone}
 use Rattle.std.specs.List.{flat_map}
-use Rattle.std.specs.List.Sorted.{IsStrictlySortedBy}
-use Rattle.std.proofs.lemmas.Option.{same_Some, slice_get-get_or, slice_get_within}
+use Rattle.std.proofs.lemmas.Option.{same_Some, slice_get_within}
 use Rattle.std.proofs.lemmas.List.{take_more}
 use Rattle.lfg_terms.specs.Order.{node_cmp}
 use Rattle.lfg_terms.specs.OrderLaws.{node_cmp_total}
@@ -14,12 +13,11 @@ use Rattle.lfg_terms.specs.declared.literal.Literal.{Literal}
 use Rattle.lfg_terms.specs.declared.literal.Literal.TheVariants as literal
 use Rattle.lfg_model.specs.declared.constant.Constant.{Constant}
 use Rattle.lfg_model.specs.Lists.{In, here, later, Lists}
-use Rattle.lfg_model.specs.Equal.{Equal, itself, stated, turned, joined, along}
+use Rattle.lfg_model.specs.Equal.{itself, stated, turned, joined, along}
 use Rattle.lfg_model.specs.Terms.{Name, Path}
-use Rattle.lfg_model.specs.Rounds.{AreBetween}
 use Rattle.lfg_model.specs.Literals.{prefixes, steps, with_prefixes, arcs_to, named, starts, checks_of, given_of, values_of, members_of, nodes, arcs, given, values, members}
 use Rattle.lfg_model.specs.Solve.{SameNode, HasArc, arc, HasValue, value, HasMember, member}
-use Rattle.lfg_model.proofs.ListLaws.{In-at, In-map, In_from_map, In-nil, In-one, In-append_left, In-append_right, In-append_cases, In-cons_cases, In-flat_map, In_from_flat_map, In-push_cases}
+use Rattle.lfg_model.proofs.ListLaws.{In-at, In-map, In_from_map, In-nil, In-one, In-append_left, In-append_right, In-append_cases, In-cons_cases, In-flat_map, In_from_flat_map}
 use Rattle.lfg_model.proofs.LiteralLaws.{literals_between}
 use Rattle.lfg_solve.specs.declared.classes.Arc.{Arc}
 use Rattle.lfg_solve.specs.declared.solution.Value.{Value}

@@ -1,18 +1,18 @@
 -- Nodes in a table, and what stands for what.
-use Rattle.std.proofs.Common.{◌≡◌, ℕ, zero, suc, ◌+◌, ◌<◌, ◌≤◌, List, [], ◌∷◌, ◌++◌, map, length, take, get_or, Option, Some, None, option_to_list, refl, sym, ap, subst, ◌∙◌, arith, inl, inr, ◌⊎◌, Ordering, Less, Equal, Greater}
+use Rattle.std.proofs.Common.{◌≡◌, ℕ, zero, suc, ◌+◌, ◌<◌, ◌≤◌, List, [], ◌∷◌, ◌++◌, length, take, get_or, Some, refl, sym, ap, subst, ◌∙◌, arith, inl, inr, ◌⊎◌, Ordering, Less, Equal, Greater}
 use Rattle.std.specs.Prelude.{◌↔◌, slice_get, Result, Ok, Err, IfSome, IfNone}
 use Rattle.std.specs.Result.{result_ok}
-use Rattle.std.specs.List.{flat_map, AllWithin, HoldsAt}
+use Rattle.std.specs.List.{flat_map, HoldsAt}
 use Rattle.std.specs.List.Sorted.{IsSearchInRange, IsBinarySearchResult, IsStrictlySortedBy, IsNonDecreasingBy, IsPartitionPoint}
 use Rattle.std.specs.Ordering.{ordering_index, ordering_reverse}
 use Rattle.std.specs.Cmp.{IsTotalOrder}
 use Rattle.std.proofs.lemmas.Option.{same_Some, slice_get-get_or, slice_get_within, get_or_from_slice_get}
 use Rattle.std.proofs.lemmas.Map.Keys.{Less-from_sorted}
 use Rattle.lfg_model.specs.Lists.{In, here, later}
-use Rattle.lfg_model.proofs.ListLaws.{In-append_left, In-append_right, In-append_cases, In-cons_cases, In-one, In-nil, In-push_cases, In-push, In-take_more, In-place, In-at}
+use Rattle.lfg_model.proofs.ListLaws.{In-append_left, In-append_right, In-append_cases, In-one, In-nil, In-place}
 use Rattle.lfg_model.proofs.Ascending.{once_from_total}
 use Rattle.lfg_solve.specs.Numbers.{Corresponds}
-use Rattle.lfg_solve.proofs.Prefixes.{flat_map-take_more, take_whole}
+use Rattle.lfg_solve.proofs.Prefixes.{flat_map-take_more}
 
 -- ---- places
 

@@ -404,11 +404,6 @@ impl Solution {
         None
     }
 
-    /// Whether the class has a member.
-    fn has_member(&self, class: usize) -> bool {
-        self.members.iter().any(|member| member.set == class)
-    }
-
     /// Whether the class has the atom as a value.
     fn has_atom(&self, class: usize, atom: &Name) -> bool {
         for value in &self.values {

@@ -1,6 +1,5 @@
 use Rattle.std.proofs.Common.{◌≡◌, ◌++◌, ◌-◌, [], ◌∷◌, length, ap, sym, ◌∙◌, append_assoc, arith}
 use Rattle.std.proofs.lemmas.List.{append-nil}
-use Rattle.lfg_terms.specs.declared.node.Node as node
 use Rattle.lfg_solve.proofs.Prefixes.{on_the_way, on_the_way-none, on_the_way-more, on_the_way-all}
 use Rattle.lfg_solve.proofs.nodes.push_prefixes.Goals as goal
 

@@ -1,4 +1,4 @@
-use Rattle.std.proofs.Common.{◌≡◌, ◌++◌, List, ap, take, subst, ◌∙◌, arith}
+use Rattle.std.proofs.Common.{◌++◌, List, ap, subst, ◌∙◌, arith}
 use Rattle.std.specs.Prelude.{IfOk}
 use Rattle.std.specs.List.{flat_map}
 use Rattle.lfg_terms.specs.Order.{node_cmp}

@@ -1,8 +1,4 @@
-use Rattle.std.proofs.Common.{List, arith, subst, refl}
-use Rattle.lfg_model.specs.Lists.{In}
-use Rattle.lfg_solve.specs.declared.classes.Arc.{Arc}
-use Rattle.lfg_solve.specs.Numbers.{Corresponds, IsLabelled}
-use Rattle.lfg_solve.proofs.Prefixes.{take_whole}
+use Rattle.std.proofs.Common.{arith}
 use Rattle.lfg_solve.proofs.Solving.{arcs_read}
 use Rattle.lfg_solve.proofs.solution.arcs_of_classes.Goals as goal
 

@@ -1,4 +1,4 @@
-use Rattle.std.proofs.Common.{arith, ◌∙◌}
+use Rattle.std.proofs.Common.{arith}
 use Rattle.lfg_solve.proofs.Dividing.{own_division}
 use Rattle.lfg_solve.proofs.classes.Classes.new.Goals as goal
 

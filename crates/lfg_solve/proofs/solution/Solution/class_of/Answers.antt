@@ -1,4 +1,4 @@
-use Rattle.std.proofs.Common.{◌≡◌, List, ℕ, Option, Some, None, length, subst}
+use Rattle.std.proofs.Common.{◌≡◌, List, ℕ, Option, Some, None, length}
 use Rattle.std.specs.Prelude.{IfNone}
 use Rattle.std.specs.List.Sorted.{IsStrictlySortedBy}
 use Rattle.lfg_terms.specs.Order.{node_cmp}

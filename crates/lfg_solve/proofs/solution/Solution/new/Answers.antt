@@ -1,9 +1,5 @@
-use Rattle.std.proofs.Common.{◌≡◌, ℕ, List, length, subst, ◌∙◌, arith}
-use Rattle.lfg_terms.specs.Order.{node_cmp}
-use Rattle.lfg_model.specs.Lists.{In, Lists}
-use Rattle.lfg_model.specs.Literals.{nodes}
+use Rattle.std.proofs.Common.{◌≡◌, length, arith}
 use Rattle.lfg_model.proofs.ListLaws.{In-append_left}
-use Rattle.lfg_solve.specs.Divides.{Divides}
 use Rattle.lfg_solve.proofs.Solving.{table_lists, step_listed, given_listed, value_listed, member_listed, solves}
 use Rattle.lfg_solve.proofs.solution.Solution.new.Goals as goal
 
