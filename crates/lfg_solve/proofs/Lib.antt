@@ -1,2 +1,9 @@
+pub mod Numbered
+pub mod Dividing
+pub mod Finding
 pub mod MarkLaws
+pub mod Prefixes
 pub mod Relabelling
+pub mod Sames
+pub mod Solving
+pub mod Tables

@@ -10,6 +10,7 @@ mod derivation;
 mod facts;
 mod nodes;
 mod resolve;
+mod same;
 mod solution;
 
 pub use assigned::assigned_pair;
