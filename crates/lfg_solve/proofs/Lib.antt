@@ -7,3 +7,6 @@ pub mod Relabelling
 pub mod Sames
 pub mod Solving
 pub mod Tables
+pub mod ResolveLaws
+pub mod StringLaws
+pub mod ViewLaws
