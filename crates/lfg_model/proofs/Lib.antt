@@ -25,5 +25,6 @@ pub mod Settling
 pub mod SolutionLaws
 pub mod SomeReading
 pub mod SymbolRule
+pub mod ThinLaws
 pub mod TreeOrder
 pub mod Within

@@ -14,6 +14,7 @@ pub mod Rounds
 pub mod Solve
 pub mod Terms
 pub mod Thin
+pub mod ThinTrees
 pub mod Pieces
 pub mod Tokens
 pub mod Trees

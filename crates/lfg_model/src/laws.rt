@@ -8,6 +8,7 @@ ghost use Rattle.lfg_model.specs.ManWalks.{TheManWalks};
 ghost use Rattle.lfg_model.specs.Readings.{ClassesHaveOneName, ReadingsAreOne};
 ghost use Rattle.lfg_model.specs.Rounds.{GrowingRoundsSettle, RoundsGiveEqual};
 ghost use Rattle.lfg_model.specs.Solve.{RoundsGiveSolution};
+ghost use Rattle.lfg_model.specs.ThinTrees.{OneThinDerivation, ThinLeavesNoChoice};
 ghost use Rattle.lfg_model.specs.Unambiguous.{OneDerivation};
 
 /// Two lists of facts in ascending order that have the same facts are equal.
@@ -62,6 +63,16 @@ pub fn negated_where_plain_fails()
 /// place.
 pub fn one_derivation()
     ensures { OneDerivation }
+{}
+
+/// A thin grammar leaves no choice for a sentence whose tokens have their own text alone as forms.
+pub fn thin_grammars_leave_no_choice()
+    ensures { ThinLeavesNoChoice }
+{}
+
+/// Such a sentence has one derivation at most by a thin grammar.
+pub fn one_thin_derivation()
+    ensures { OneThinDerivation }
 {}
 
 /// The text of the facts of a derivation's tree is that of the tree, where no edge stands twice and
