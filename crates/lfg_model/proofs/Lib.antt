@@ -5,6 +5,7 @@ pub mod OneReading
 pub mod PieceEnds
 pub mod Alike
 pub mod Ascending
+pub mod AtMostOne
 pub mod BracketLaws
 pub mod Classing
 pub mod DeriveLaws

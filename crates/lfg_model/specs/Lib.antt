@@ -19,3 +19,4 @@ pub mod Pieces
 pub mod Tokens
 pub mod Trees
 pub mod Unambiguous
+pub mod ThinText

@@ -1,11 +1,18 @@
 -- What the program writes: its command line, its exit status and the line for a fault.
-use Rattle.std.specs.Prelude.{ℕ, ◌==◌, if◌then◌else◌, Option, Some, None, List, [], ◌∷◌, ◌++◌, decimal, codes}
+use Rattle.std.specs.Prelude.{◌≡◌, ℕ, suc, not, ◌==◌, if◌then◌else◌, Option, Some, None, List, [], ◌∷◌, ◌++◌, map, filter, take, length, decimal, codes}
+use Rattle.std.specs.List.{flat_map}
+use Rattle.std.specs.Str.Lines.{lines}
+use Rattle.lfg_terms.specs.declared.grammar.Grammar.{Grammar}
+use Rattle.lfg_model.specs.declared.pair.Pair.{Pair}
 use Rattle.std.specs.Cmp.Lexicographic.{pointwise}
 use Rattle.lfg_model.specs.declared.status.GrammarFault.{GrammarFault}
 use Rattle.lfg_model.specs.declared.status.GrammarFault.TheVariants.{Entry}
 use Rattle.lfg_model.specs.declared.status.Status.{Status}
 use Rattle.lfg_model.specs.declared.status.Status.TheVariants.{Done, Usage, ReadFault, BadGrammar, WriteFault, Memory}
 use Rattle.lfg_model.specs.Lists.{In}
+use Rattle.lfg_model.specs.PairTexts.{pair_text}
+use Rattle.lfg_model.specs.Readings.{IsReadings}
+use Rattle.lfg_model.specs.ThinText.{ThinFile, ThinSentences, words, token_of}
 
 -- the number with which the program ends
 abbrev pub exit_status : Status → ℕ
@@ -60,3 +67,88 @@ IfReadFault _ P = Unit {0}
 abbrev pub IfBadGrammar : Status → (List ℕ → GrammarFault → Type 0) → Type 0
 IfBadGrammar (BadGrammar name fault) P = P name fault
 IfBadGrammar _ P = Unit {0}
+
+-- ---- the output of a command
+
+-- the heading of a sentence's section: its number, counted from 1, and its text
+abbrev pub heading : ℕ → List ℕ → List ℕ
+heading number line = codes "# " ++ decimal number ++ 32 ∷ line ++ 10 ∷ []
+
+-- a section: a heading, what is written of the sentence, and an empty line
+abbrev pub section : ℕ → List ℕ → List ℕ → List ℕ
+section number line body = heading number line ++ body ++ 10 ∷ []
+
+-- The sections of sentences, numbered from this number on, by what is written of each.
+pub data AreSections (IsBody : List ℕ → List ℕ → Type 0) : ℕ → List (List ℕ) → List (List ℕ) → Type 0 where
+  none : {number : ℕ} → AreSections IsBody number [] []
+  more : {number : ℕ} {line body : List ℕ} {lines sections : List (List ℕ)} → IsBody line body → AreSections IsBody (suc number) lines sections
+      → AreSections IsBody number (line ∷ lines) (section number line body ∷ sections)
+
+-- the sentences of a text: its lines but the empty ones
+abbrev pub sentences_of : List ℕ → List (List ℕ)
+sentences_of text = filter (λ line. not (length line == 0)) (lines text)
+
+-- what `readings` writes of a sentence: the texts of its readings, in their order
+pub record AreReadings (g : Grammar) (line body : List ℕ) : Type 0 where
+  pub pairs : List Pair
+  pub readings : IsReadings g (map token_of (words line)) pairs
+  pub is : body ≡ flat_map pair_text pairs
+
+-- the status of a file that is not accepted
+abbrev pub not_accepted : List ℕ → Status
+not_accepted name = BadGrammar name (Entry 0)
+
+-- The output of a command line over files, which are told by their names: its sections and its
+-- status. First come the words, then the files in their order, each found and then accepted, and
+-- then the sentences. Want of memory and faults of devices do not occur in it.
+pub data IsOutput (files : List ℕ → Option (List ℕ)) : Option Command → List (List ℕ) → Status → Type 0 where
+  usage : IsOutput files None [] Usage
+  no_grammar : {g s : List ℕ} → files g ≡ None → IsOutput files (Some (readings g s)) [] (ReadFault g)
+  bad_grammar : {g s bytes : List ℕ} → files g ≡ Some bytes → ((grammar : Grammar) → ¬ ThinFile bytes grammar)
+      → IsOutput files (Some (readings g s)) [] (not_accepted g)
+  no_sentences : {g s bytes : List ℕ} {grammar : Grammar} → files g ≡ Some bytes → ThinFile bytes grammar → files s ≡ None
+      → IsOutput files (Some (readings g s)) [] (ReadFault s)
+  bad_sentences : {g s bytes text : List ℕ} {grammar : Grammar} → files g ≡ Some bytes → ThinFile bytes grammar → files s ≡ Some text → ¬ ThinSentences text
+      → IsOutput files (Some (readings g s)) [] (not_accepted s)
+  all_read : {g s bytes text : List ℕ} {grammar : Grammar} {sections : List (List ℕ)} → files g ≡ Some bytes → ThinFile bytes grammar
+      → files s ≡ Some text → ThinSentences text → AreSections (AreReadings grammar) 1 (sentences_of text) sections
+      → IsOutput files (Some (readings g s)) sections Done
+
+-- the bytes of pieces, one behind another
+abbrev pub joined : List (List ℕ) → List ℕ
+joined = flat_map (λ piece. piece)
+
+-- the bytes are the whole sections of some sentences, from the first on
+pub record WholeSections (IsBody : List ℕ → List ℕ → Type 0) (sentences : List (List ℕ)) (bytes : List ℕ) : Type 0 where
+  pub written : List (List ℕ)
+  pub left : List (List ℕ)
+  pub split : sentences ≡ written ++ left
+  pub sections : List (List ℕ)
+  pub are : AreSections IsBody 1 written sections
+  pub is : bytes ≡ joined sections
+
+-- the same, and behind them the beginning of the next sentence's section
+pub record CutSections (IsBody : List ℕ → List ℕ → Type 0) (sentences : List (List ℕ)) (bytes : List ℕ) : Type 0 where
+  pub written : List (List ℕ)
+  pub next : List ℕ
+  pub left : List (List ℕ)
+  pub split : sentences ≡ written ++ next ∷ left
+  pub sections : List (List ℕ)
+  pub are : AreSections IsBody 1 written sections
+  pub body : List ℕ
+  pub is_body : IsBody next body
+  pub count : ℕ
+  pub is : bytes ≡ joined sections ++ take count (section (suc (length written)) next body)
+
+-- What a run has written that ends for want of memory: nothing, or the sections of some sentences,
+-- whole and from the first on.
+pub data IsPart (files : List ℕ → Option (List ℕ)) : Option Command → List ℕ → Type 0 where
+  nothing : {c : Option Command} → IsPart files c []
+  sections : {g s bytes text part : List ℕ} {grammar : Grammar} → files g ≡ Some bytes → ThinFile bytes grammar → files s ≡ Some text → ThinSentences text
+      → WholeSections (AreReadings grammar) (sentences_of text) part → IsPart files (Some (readings g s)) part
+
+-- What a run has written that ends with a fault of the output: the sections of some sentences,
+-- whole and from the first on, and the beginning of the next one.
+pub data IsCutPart (files : List ℕ → Option (List ℕ)) : Option Command → List ℕ → Type 0 where
+  sections : {g s bytes text part : List ℕ} {grammar : Grammar} → files g ≡ Some bytes → ThinFile bytes grammar → files s ≡ Some text → ThinSentences text
+      → CutSections (AreReadings grammar) (sentences_of text) part → IsCutPart files (Some (readings g s)) part

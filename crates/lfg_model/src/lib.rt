@@ -4,11 +4,13 @@
 
 mod constant;
 pub mod laws;
+mod lexeme;
 mod pair;
 mod status;
 mod token;
 
 pub use constant::Constant;
+pub use lexeme::Lexeme;
 pub use pair::Pair;
 pub use status::{GrammarFault, Status};
 pub use token::{Token, TokenKind, longest_tokens, one_reading};

@@ -12,6 +12,8 @@ mod node;
 mod order;
 mod path;
 mod shared;
+#[cfg(test)]
+mod tests;
 mod texts;
 mod tree;
 

@@ -1,7 +1,9 @@
--- Why a file was not taken.
-use Rattle.std.specs.Prelude.{◌≡◌, ℕ, List}
+-- Why a run ends before all is written.
+use Rattle.std.specs.Prelude.{◌≡◌, ℕ, None, List}
 use Rattle.std.specs.List.{Contains}
 use Rattle.lfg_io.specs.Counts.{Rose}
+use Rattle.lfg_model.specs.Lists.{In}
+use Rattle.lfg_model.specs.Output.{command_of, files_of}
 use Rattle.lfg_model.specs.declared.status.GrammarFault.TheVariants.{Entry}
 use Rattle.lfg_model.specs.declared.status.Status.{Status}
 use Rattle.lfg_model.specs.declared.status.Status.TheVariants.{Done, Usage, ReadFault, BadGrammar, WriteFault, Memory}
@@ -25,3 +27,22 @@ IsUnwritten before now Done = ⊥
 IsUnwritten before now Usage = ⊥
 IsUnwritten before now (ReadFault name) = ⊥
 IsUnwritten before now (BadGrammar name fault) = ⊥
+
+-- The status with which a command over files of these names failed: one of them was not taken, or
+-- the sections were not written.
+abbrev pub IsFailure : List (List ℕ) → List (List ℕ) → ℕ → ℕ → List ℕ → ℕ → ℕ → Status → Type 0
+IsFailure files sure before now last out_before out_now (ReadFault name) = In name files × (last ≡ name) × Rose before now × ¬ Contains sure name
+IsFailure files sure before now last out_before out_now (BadGrammar name fault) = In name files × (fault ≡ Entry 0)
+IsFailure files sure before now last out_before out_now WriteFault = Rose out_before out_now
+IsFailure files sure before now last out_before out_now Memory = Unit {0}
+IsFailure files sure before now last out_before out_now Done = ⊥
+IsFailure files sure before now last out_before out_now Usage = ⊥
+
+-- the same for the words of a command line, which may also fit no command
+abbrev pub IsRunFailure : List (List ℕ) → List (List ℕ) → ℕ → ℕ → List ℕ → ℕ → ℕ → Status → Type 0
+IsRunFailure words sure before now last out_before out_now Usage = command_of words ≡ None
+IsRunFailure words sure before now last out_before out_now (ReadFault name) = In name (files_of (command_of words)) × (last ≡ name) × Rose before now × ¬ Contains sure name
+IsRunFailure words sure before now last out_before out_now (BadGrammar name fault) = In name (files_of (command_of words)) × (fault ≡ Entry 0)
+IsRunFailure words sure before now last out_before out_now WriteFault = Rose out_before out_now
+IsRunFailure words sure before now last out_before out_now Memory = Unit {0}
+IsRunFailure words sure before now last out_before out_now Done = ⊥

@@ -1,8 +1,9 @@
-ghost use Rattle.std.specs.Prelude.{◌≡◌, ◌≢◌, ◌↔◌, ◌⊎◌, ℕ, List, None, map, string_bytes};
+ghost use Rattle.std.specs.Prelude.{◌≡◌, ◌≢◌, ◌↔◌, ◌⊎◌, ℕ, List, [], ◌∷◌, None, map, string_bytes, IfErr};
 ghost use Rattle.std.specs.List.{Contains};
 ghost use Rattle.lfg_io.specs.Counts.{Rose};
 ghost use Rattle.lfg_io.specs.Sink.{Appends, AppendsPrefix};
 ghost use Rattle.lfg_model.specs.Output.{command_of, IfReadFault, IfBadGrammar, IsFileOf, exit_status, fault_line};
+ghost use Rattle.xle_run.specs.Causes.{IsFailure, IsRunFailure};
 
 use crate::command::{Command, command_of};
 use crate::readings::{load_grammar, load_sentences, write_sections};
@@ -59,7 +60,11 @@ fn carry_out<F: Shelf, O: Sink>(
     words: &[String],
     shelf: &mut F,
     out: &mut O,
-) -> Result<(), Status> {
+) -> Result<(), Status>
+    ensures failed { IfErr result (IsRunFailure (map string_bytes words.now) (F.sure shelf.old) (F.faults shelf.old) (F.faults shelf.new) (F.last_failed shelf.new) (O.faults out.old) (O.faults out.new)) }
+    ensures usage { command_of (map string_bytes words.now) ≡ None → result ≡ Err Status.Usage }
+    ensures files_kept { F.files shelf.new ≡ F.files shelf.old }
+{
     match command_of(words) {
         None => Err(Status::Usage),
         Some(Command::Readings { grammar, sentences }) => {
@@ -75,7 +80,10 @@ fn readings<F: Shelf, O: Sink>(
     sentences: &str,
     shelf: &mut F,
     out: &mut O,
-) -> Result<(), Status> {
+) -> Result<(), Status>
+    ensures failed { IfErr result (IsFailure (grammar.now ∷ sentences.now ∷ []) (F.sure shelf.old) (F.faults shelf.old) (F.faults shelf.new) (F.last_failed shelf.new) (O.faults out.old) (O.faults out.new)) }
+    ensures files_kept { F.files shelf.new ≡ F.files shelf.old }
+{
     let grammar = load_grammar(alloc, shelf, grammar)?;
     let bytes = load_sentences(alloc, shelf, sentences)?;
     match str::from_utf8(&bytes) {
