@@ -26,6 +26,7 @@ pub mod Settling
 pub mod SolutionLaws
 pub mod SomeReading
 pub mod SymbolRule
+pub mod ThinTreeLaws
 pub mod TreeOrder
 pub mod Within
 pub mod ThinLaws

@@ -15,6 +15,7 @@ pub mod Solve
 pub mod Terms
 pub mod Thin
 pub mod ThinText
+pub mod ThinTrees
 pub mod Pieces
 pub mod Tokens
 pub mod Trees
