@@ -1,1 +1,4 @@
 pub mod CauseLaws
+pub mod PartRows
+pub mod SearchSteps
+pub mod SearchWords
