@@ -26,6 +26,6 @@ pub mod Settling
 pub mod SolutionLaws
 pub mod SomeReading
 pub mod SymbolRule
-pub mod ThinLaws
+pub mod ThinTreeLaws
 pub mod TreeOrder
 pub mod Within

@@ -1,4 +1,4 @@
-use Rattle.lfg_model.proofs.ThinLaws as laws
+use Rattle.lfg_model.proofs.ThinTreeLaws as laws
 use Rattle.lfg_model.proofs.laws.one_thin_derivation.Goals as goal
 
 pub returns : goal.returns
