@@ -17,7 +17,7 @@ use Rattle.lfg_model.specs.Thin.{Phrase, item_of, rule_of_phrase, IsThinGrammar}
 use Rattle.lfg_model.specs.ThinTrees.{HaveOwnForms, numbers}
 use Rattle.lfg_model.proofs.OneTree.{same_some, same_cons, nil≢cons, one_derivation}
 use Rattle.lfg_model.proofs.ListLaws.{In_from_map}
-use Rattle.lfg_model.proofs.ThinLaws.{same_from_test, from_map, numbers_walk, IsRuleOfPhrase, phrase_of, row_length, row_of_rule, item_from, item_places, no_word_of_rule, no_choice}
+use Rattle.lfg_model.proofs.ThinTreeLaws.{same_from_test, from_map, numbers_walk, IsRuleOfPhrase, phrase_of, row_length, row_of_rule, item_from, item_places, no_word_of_rule, no_choice}
 use Rattle.xle_run.specs.Search.{rule_in, AreRest, Know, KnowDaughters, Finds, Lacks, LacksWord, joined}
 use Rattle.xle_run.proofs.PartRows.{occurrences-joined, Covers-joined, numbers-push}
 

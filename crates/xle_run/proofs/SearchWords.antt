@@ -13,7 +13,7 @@ use Rattle.lfg_model.specs.Terms.{Name, same_name, leaf}
 use Rattle.lfg_model.specs.Derive.{IsWord}
 use Rattle.lfg_model.specs.Thin.{IsThinGrammar}
 use Rattle.lfg_model.proofs.OneTree.{same_some}
-use Rattle.lfg_model.proofs.ThinLaws.{same_itself, same_from_test, entry_places}
+use Rattle.lfg_model.proofs.ThinTreeLaws.{same_itself, same_from_test, entry_places}
 use Rattle.xle_run.specs.Search.{IsEntry, IsEntryAt, Finds, LacksWord}
 
 pub told : (b : Bool) (P : Type 0) → (b ≡ true → P) → OnTrue b P

@@ -1,5 +1,5 @@
 use Rattle.std.proofs.Common.{◌≡◌, ◌+◌, length, length-drop, sym, ◌∙◌, ap, arith}
-use Rattle.lfg_model.proofs.ThinLaws.{In-place_of}
+use Rattle.lfg_model.proofs.ThinTreeLaws.{In-place_of}
 use Rattle.xle_run.specs.Search.{list_parts}
 use Rattle.xle_run.proofs.PartRows.{same_inner}
 use Rattle.xle_run.proofs.SearchSteps.{lacks_whole, lacks_both, no_rule, rule_is, position_found, rest_after, knows_after, has_category, stops, reaches_pushed, finds_whole, same_tree, item_read}
