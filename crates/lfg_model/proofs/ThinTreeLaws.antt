@@ -9,12 +9,12 @@ use Rattle.lfg_terms.specs.declared.grammar.Rule.{Rule}
 use Rattle.lfg_terms.specs.declared.grammar.Lex.{Lex}
 use Rattle.lfg_terms.specs.declared.grammar.Grammar.{Grammar}
 use Rattle.lfg_terms.specs.declared.tree.TokenForms.{TokenForms}
-use Rattle.lfg_model.specs.Lists.{In, here, later, Once, none, more}
-use Rattle.lfg_model.specs.Terms.{Name, same_name, annotation_of, Tree}
+use Rattle.lfg_model.specs.Lists.{In, here, later, Once, more}
+use Rattle.lfg_model.specs.Terms.{Name, same_name, annotation_of}
 use Rattle.lfg_model.specs.Places.{places}
-use Rattle.lfg_model.specs.Derive.{rule_of, item_at, Runs, Walks, Whole, edge}
-use Rattle.lfg_model.specs.Unambiguous.{IsUnambiguous}
-use Rattle.lfg_model.specs.Thin.{Daughter, Phrase, Equation, Entry, Draft, link, item_of, next_from, last_of, row_graph, rule_of_phrase, schema_of_equation, lex_of_entry, IsThinGrammar}
+use Rattle.lfg_model.specs.Derive.{rule_of, item_at, Runs, Walks}
+use Rattle.lfg_model.specs.Thin.{Daughter, Phrase, Equation, Entry, link, item_of, next_from, last_of, row_graph, rule_of_phrase, schema_of_equation, lex_of_entry, IsThinGrammar}
+use Rattle.lfg_model.specs.ThinText.{token_of}
 use Rattle.lfg_model.specs.ThinTrees.{HaveOwnForms, numbers, ThinLeavesNoChoice, OneThinDerivation}
 use Rattle.lfg_model.proofs.ListLaws.{In-nil, In-one, In-map}
 use Rattle.lfg_model.proofs.OneTree.{same_some, one_derivation}
@@ -182,6 +182,12 @@ module _ (g : Grammar) (thin : IsThinGrammar g) where
       let a = entry_of j x p in
       let b = entry_of k y q in
       once_places (λ z. z.form) thin.draft.entries thin.consistent.one_entry j k a.0 b.0 a.1 b.1 (ap (λ z. z.form) a.2 ∙ same ∙ sym (ap (λ z. z.form) b.2))
+
+-- the words of a thin sentence file have themselves as forms
+pub own_forms : (ws : List Name) → HaveOwnForms (map token_of ws)
+own_forms ws = record {
+  each = λ k t at. let w = from_map token_of ws k t at in subst (λ (u : TokenForms). u.forms ≡ u.text ∷ []) w.2 refl;
+}
 
 pub no_choice : ThinLeavesNoChoice
 no_choice g s thin own = record {
