@@ -10,3 +10,7 @@ pub mod HeadSteps
 pub mod Places
 pub mod PlacesOf
 pub mod Rows
+pub mod PartRows
+pub mod SearchSteps
+pub mod SearchWords
+pub mod LoadLaws

@@ -3,6 +3,9 @@ use Rattle.std.proofs.Common.{◌≡◌, ℕ, zero, suc, ◌≤◌, ◌<◌, Lis
 use Rattle.std.proofs.lemmas.List.{length-take}
 use Rattle.lfg_io.specs.Shelf.{Files}
 use Rattle.lfg_terms.specs.declared.grammar.Grammar.{Grammar}
+use Rattle.lfg_model.specs.declared.status.Status.{Status}
+use Rattle.lfg_model.specs.declared.status.Status.TheVariants.{Done, Usage, ReadFault, BadGrammar, WriteFault, Memory}
+use Rattle.lfg_model.specs.Output.{IfBadGrammar}
 use Rattle.lfg_model.specs.ThinText.{ThinFile, ThinSentences}
 use Rattle.xle_run.specs.Loads.{file_in, GivesGrammar, GivesNoGrammar, GivesText, GivesNoText}
 
@@ -46,3 +49,12 @@ module _ (limit : ℕ) (files : Files) (name bytes loaded : List ℕ) (there : f
     where
       short : ThinSentences bytes → length bytes ≤ limit
       short t = let s = t.short in omega arith
+
+-- what holds in any case holds where a file is not accepted
+pub at_bad_grammar : {P : Type 0} (s : Status) → P → IfBadGrammar s (λ name fault. P)
+at_bad_grammar (BadGrammar name fault) p = p
+at_bad_grammar Done p = tt
+at_bad_grammar Usage p = tt
+at_bad_grammar (ReadFault name) p = tt
+at_bad_grammar WriteFault p = tt
+at_bad_grammar Memory p = tt

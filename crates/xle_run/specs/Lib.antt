@@ -4,3 +4,5 @@ pub mod Commands
 pub mod Drafts
 pub mod Heads
 pub mod Reading
+pub mod Search
+pub mod Loads

@@ -3,6 +3,7 @@ ghost use Rattle.std.specs.List.{Contains};
 ghost use Rattle.lfg_io.specs.Counts.{Rose};
 ghost use Rattle.lfg_io.specs.Shelf.{Files};
 ghost use Rattle.lfg_model.specs.Output.{IfBadGrammar};
+ghost use Rattle.lfg_model.specs.Thin.{IsThinGrammar};
 ghost use Rattle.xle_run.specs.Causes.{IsRefused};
 ghost use Rattle.xle_run.specs.Loads.{file_in, GivesGrammar, GivesNoGrammar};
 
@@ -20,7 +21,11 @@ const LIMIT: usize = 4_194_305;
 /// # Errors
 ///
 /// The status of a file that could not be read, or of want of memory.
-pub(crate) fn load_file<F: Shelf>(alloc: Global, shelf: &mut F, name: &str) -> Result<Vec<u8>, Status>
+pub(crate) fn load_file<F: Shelf>(
+    alloc: Global,
+    shelf: &mut F,
+    name: &str,
+) -> Result<Vec<u8>, Status>
     ensures loaded { (files : Files) → F.files shelf.old ≡ Some files → IfOk result (λ v. (bytes : List ℕ) × (file_in files name.now ≡ Some bytes) × (v.items ≡ take 4194305 bytes)) }
     ensures refused { IfErr result (IsRefused name.now (F.sure shelf.old) (F.faults shelf.old) (F.faults shelf.new) (F.last_failed shelf.new)) }
     ensures not_bad { IfErr result (λ status. IfBadGrammar status (λ name fault. ⊥)) }
@@ -63,6 +68,7 @@ pub(crate) fn load_grammar<F: Shelf>(
     name: &str,
 ) -> Result<Grammar, Status>
     ensures loaded { (files : Files) → F.files shelf.old ≡ Some files → IfOk result (GivesGrammar files name.now) }
+    ensures thin { IfOk result IsThinGrammar }
     ensures not_thin { (files : Files) → F.files shelf.old ≡ Some files → IfErr result (λ status. IfBadGrammar status (λ other fault. GivesNoGrammar files name.now)) }
     ensures refused { IfErr result (IsRefused name.now (F.sure shelf.old) (F.faults shelf.old) (F.faults shelf.new) (F.last_failed shelf.new)) }
     ensures faults_kept { OnOk result (F.faults shelf.new ≡ F.faults shelf.old) }

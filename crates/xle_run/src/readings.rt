@@ -1,6 +1,7 @@
 ghost use Rattle.std.specs.Prelude.{◌≡◌, ◌∷◌, [], ℕ, List, Some, IfErr};
 ghost use Rattle.lfg_io.specs.Shelf.{Files};
 ghost use Rattle.lfg_model.specs.Output.{readings, IfBadGrammar, IsOutput};
+ghost use Rattle.lfg_model.specs.Thin.{IsThinGrammar};
 ghost use Rattle.xle_run.specs.Causes.{IsFailure};
 ghost use Rattle.xle_run.specs.Loads.{file_in, GivesGrammar, Accepts, AcceptsText};
 
@@ -43,6 +44,7 @@ fn readings_by<F: Shelf, O: Sink>(
     shelf: &mut F,
     out: &mut O,
 ) -> Result<(), Status>
+    requires { IsThinGrammar grammar.now }
     ensures failed { IfErr result (IsFailure (sentences.now ∷ []) (F.sure shelf.old) (F.faults shelf.old) (F.faults shelf.new) (F.last_failed shelf.new) (O.faults out.old) (O.faults out.new)) }
     ensures files_kept { F.files shelf.new ≡ F.files shelf.old }
     ensures refused { (files : Files) (name : List ℕ) → F.files shelf.old ≡ Some files → GivesGrammar files name grammar.now → IfErr result (λ status. IfBadGrammar status (λ other fault. IsOutput (file_in files) (Some (readings name sentences.now)) [] status)) }

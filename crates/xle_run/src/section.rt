@@ -1,3 +1,5 @@
+ghost use Rattle.lfg_model.specs.Thin.{IsThinGrammar};
+
 use crate::pair_text::push_pair;
 use crate::search::find_derivation;
 use crate::thin::words_of;
@@ -16,7 +18,9 @@ pub(crate) fn section(
     grammar: &Grammar,
     number: u64,
     line: &str,
-) -> Result<Vec<u8>, AllocError> {
+) -> Result<Vec<u8>, AllocError>
+    requires { IsThinGrammar grammar.now }
+{
     let mut text = Vec::new(alloc);
     push_heading(alloc, &mut text, number, line)?;
     let tokens = words_of(alloc, line)?;

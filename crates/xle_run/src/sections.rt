@@ -1,5 +1,6 @@
 ghost use Rattle.std.specs.Prelude.{◌≡◌, ◌≤◌, IfOk, IfErr, map};
 ghost use Rattle.std.specs.Str.Lines.{lines};
+ghost use Rattle.lfg_model.specs.Thin.{IsThinGrammar};
 ghost use Rattle.xle_run.specs.Causes.{IsUnwritten};
 
 use crate::section::section;
@@ -19,6 +20,7 @@ pub(crate) fn write_sections<O: Sink>(
     grammar: &Grammar,
     text: &str,
 ) -> Result<(), Status>
+    requires { IsThinGrammar grammar.now }
     ensures unwritten { IfErr result (IsUnwritten (O.faults out.old) (O.faults out.new)) }
 {
     let Ok(lines) = lines_of(alloc, text) else {
@@ -51,6 +53,7 @@ fn write_section<O: Sink>(
     number: u64,
     line: &str,
 ) -> Result<(), Status>
+    requires { IsThinGrammar grammar.now }
     ensures unwritten { IfErr result (IsUnwritten (O.faults out.old) (O.faults out.new)) }
     ensures later { O.faults out.old ≤ O.faults out.new }
 {
