@@ -14,3 +14,4 @@ pub mod PartRows
 pub mod SearchSteps
 pub mod SearchWords
 pub mod LoadLaws
+pub mod CommandLaws

@@ -1,0 +1,98 @@
+-- From what is known of the files to what is known of the command over them.
+use Rattle.std.proofs.Common.{◌≡◌, ℕ, List, [], ◌∷◌, Some, None, Option, sym, subst}
+use Rattle.std.specs.Prelude.{Result, Ok, Err}
+use Rattle.lfg_io.specs.Shelf.{Files}
+use Rattle.lfg_terms.specs.declared.grammar.Grammar.{Grammar}
+use Rattle.lfg_model.specs.declared.status.GrammarFault.{GrammarFault}
+use Rattle.lfg_model.specs.declared.status.GrammarFault.TheVariants.{Entry}
+use Rattle.lfg_model.specs.declared.status.Status.{Status}
+use Rattle.lfg_model.specs.declared.status.Status.TheVariants.{Done, Usage, ReadFault, BadGrammar, WriteFault, Memory}
+use Rattle.lfg_model.specs.Lists.{In, here, later}
+use Rattle.lfg_model.specs.Output.{Command, command_of, readings, IfBadGrammar, IsOutput, bad_grammar, bad_sentences}
+use Rattle.xle_run.specs.Causes.{IsRefused, IsFailure}
+use Rattle.xle_run.specs.Loads.{file_in, GivesGrammar, GivesNoGrammar, GivesText, GivesNoText, AcceptsText, Accepts, AreAccepted}
+
+-- a failure over some files is one over more
+pub wider_failure : (xs ys sure : List (List ℕ)) (before now : ℕ) (last : List ℕ) (ob on : ℕ) (s : Status) → ((n : List ℕ) → In n xs → In n ys)
+    → IsFailure xs sure before now last ob on s → IsFailure ys sure before now last ob on s
+wider_failure xs ys sure before now last ob on (ReadFault name) f h = (f name h.0, h.1, h.2, h.3)
+wider_failure xs ys sure before now last ob on (BadGrammar name fault) f h = (f name h.0, h.1)
+wider_failure xs ys sure before now last ob on WriteFault f h = h
+wider_failure xs ys sure before now last ob on Memory f h = tt
+wider_failure xs ys sure before now last ob on Done f h = h
+wider_failure xs ys sure before now last ob on Usage f h = h
+
+-- the failure of what follows a load that counted nothing
+pub later_failure : (g s : List ℕ) (sure sure' : List (List ℕ)) (before before' now : ℕ) (last : List ℕ) (ob on : ℕ) (st : Status) → sure' ≡ sure → before' ≡ before
+    → IsFailure (s ∷ []) sure' before' now last ob on st → IsFailure (g ∷ s ∷ []) sure before now last ob on st
+later_failure g s sure sure' before before' now last ob on st e f h =
+    let a = subst (λ xs. IsFailure (s ∷ []) xs before' now last ob on st) e h in
+    let b = subst (λ (k : ℕ). IsFailure (s ∷ []) sure k now last ob on st) f a in
+    wider_failure (s ∷ []) (g ∷ s ∷ []) sure before now last ob on st (λ n i. later i) b
+
+module _ (files : Files) (g s : List ℕ) (sure : List (List ℕ)) (before now : ℕ) (last : List ℕ) where
+  -- a grammar file that is not accepted is the output of the command
+  pub no_grammar_output : (st : Status) → IsRefused g sure before now last st → IfBadGrammar st (λ name fault. GivesNoGrammar files g)
+      → IfBadGrammar st (λ name fault. IsOutput (file_in files) (Some (readings g s)) [] st)
+  no_grammar_output (BadGrammar name fault) h p =
+      let a : IsOutput (file_in files) (Some (readings g s)) [] (BadGrammar g (Entry 0)) = bad_grammar p.there p.not_thin in
+      let b = subst (λ n. IsOutput (file_in files) (Some (readings g s)) [] (BadGrammar n (Entry 0))) (sym h.0) a in
+      subst (λ (f : GrammarFault). IsOutput (file_in files) (Some (readings g s)) [] (BadGrammar name f)) (sym h.1) b
+  no_grammar_output Done h p = tt
+  no_grammar_output Usage h p = tt
+  no_grammar_output (ReadFault name) h p = tt
+  no_grammar_output WriteFault h p = tt
+  no_grammar_output Memory h p = tt
+
+  -- so is a sentence file that is not accepted, behind a grammar file that is
+  pub no_text_output : (grammar : Grammar) (st : Status) → GivesGrammar files g grammar → IsRefused s sure before now last st → IfBadGrammar st (λ name fault. GivesNoText files s)
+      → IfBadGrammar st (λ name fault. IsOutput (file_in files) (Some (readings g s)) [] st)
+  no_text_output grammar (BadGrammar name fault) gives h p =
+      let a : IsOutput (file_in files) (Some (readings g s)) [] (BadGrammar s (Entry 0)) = bad_sentences gives.there gives.thin p.there p.not_thin in
+      let b = subst (λ n. IsOutput (file_in files) (Some (readings g s)) [] (BadGrammar n (Entry 0))) (sym h.0) a in
+      subst (λ (f : GrammarFault). IsOutput (file_in files) (Some (readings g s)) [] (BadGrammar name f)) (sym h.1) b
+  no_text_output grammar Done gives h p = tt
+  no_text_output grammar Usage gives h p = tt
+  no_text_output grammar (ReadFault name) gives h p = tt
+  no_text_output grammar WriteFault gives h p = tt
+  no_text_output grammar Memory gives h p = tt
+
+-- both files are accepted
+pub both_accepted : (T : Type 0) (files : Files) (g s : List ℕ) (grammar : Grammar) (r : Result T Status) → GivesGrammar files g grammar
+    → AcceptsText files s r → Accepts files (Some (readings g s)) r
+both_accepted T files g s grammar (Ok v) gives h = (grammar, h.0, gives, h.1)
+both_accepted T files g s grammar (Err WriteFault) gives h = (grammar, h.0, gives, h.1)
+both_accepted T files g s grammar (Err Done) gives h = tt
+both_accepted T files g s grammar (Err Usage) gives h = tt
+both_accepted T files g s grammar (Err (ReadFault name)) gives h = tt
+both_accepted T files g s grammar (Err (BadGrammar name fault)) gives h = tt
+both_accepted T files g s grammar (Err Memory) gives h = tt
+
+-- a file that was not taken says nothing of what is accepted
+pub refused_accepts : (T : Type 0) (files : Files) (c : Option Command) (file : List ℕ) (sure : List (List ℕ)) (before now : ℕ) (last : List ℕ) (st : Status)
+    → IsRefused file sure before now last st → Accepts {T = T} files c (Err st)
+refused_accepts T files c file sure before now last (ReadFault name) h = tt
+refused_accepts T files c file sure before now last (BadGrammar name fault) h = tt
+refused_accepts T files c file sure before now last Memory h = tt
+refused_accepts T files c file sure before now last Done h = tt
+refused_accepts T files c file sure before now last Usage h = tt
+refused_accepts T files c file sure before now last WriteFault h = absurd h
+
+pub refused_accepts_text : (T : Type 0) (files : Files) (s file : List ℕ) (sure : List (List ℕ)) (before now : ℕ) (last : List ℕ) (st : Status)
+    → IsRefused file sure before now last st → AcceptsText {T = T} files s (Err st)
+refused_accepts_text T files s file sure before now last (ReadFault name) h = tt
+refused_accepts_text T files s file sure before now last (BadGrammar name fault) h = tt
+refused_accepts_text T files s file sure before now last Memory h = tt
+refused_accepts_text T files s file sure before now last Done h = tt
+refused_accepts_text T files s file sure before now last Usage h = tt
+refused_accepts_text T files s file sure before now last WriteFault h = absurd h
+
+-- once the text is accepted, all answers say so
+pub accepts_text : (T : Type 0) (files : Files) (s text : List ℕ) (r : Result T Status) → GivesText files s text → AcceptsText files s r
+accepts_text T files s text (Ok v) h = (text, h)
+accepts_text T files s text (Err WriteFault) h = (text, h)
+accepts_text T files s text (Err Done) h = tt
+accepts_text T files s text (Err Usage) h = tt
+accepts_text T files s text (Err (ReadFault name)) h = tt
+accepts_text T files s text (Err (BadGrammar name fault)) h = tt
+accepts_text T files s text (Err Memory) h = tt
