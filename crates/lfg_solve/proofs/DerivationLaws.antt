@@ -61,7 +61,7 @@ inner_literals g d cat parts from count to mother items old new t e f h s writte
     let start : from ≡ mother.from = sym (ap (λ x. x.from) own) in
     let here : mother.from + parts_width parts < 2 ^ 32 = omega arith in
     let same : parts_literals g items mother parts mother.from ≡ literals g (inner cat parts) from =
-        (λ i. parts_literals g (s i) (own i) parts ((own i).from)) in
+    (λ i. parts_literals g (s i) (own i) parts ((own i).from)) in
     written forms (rw s (rule_fits g cat forms)) here ∙ ap (λ xs. old ++ xs) same ∙ ap (λ x. old ++ literals g x from) (sym t)
 
 pub inner_facts : (s : List TokenForms) (d : Tree) (cat : Name) (parts : Parts) (from count to : ℕ) (mother : Edge) (old new : List Fact)
@@ -76,91 +76,6 @@ inner_facts s d cat parts from count to mother old new t e f h written fits =
     let same : parts_facts s mother parts mother.from ≡ tree_facts s (inner cat parts) from = (λ i. parts_facts s (own i) parts ((own i).from)) in
     written here ∙ ap (λ xs. old ++ xs) same ∙ ap (λ x. old ++ tree_facts s x from) (sym t)
 
-pub leaf_literals : (g : Grammar) (d : Tree) (cat : Name) (entry : ℕ) (given picks : List ℕ) (from to : ℕ) (own : Edge) (old new : List Literal)
-    → d ≡ leaf cat entry picks → given ≡ picks → own ≡ edge cat from to → to ≡ min (from + 1) (2 ^ 32 - 1)
-    → (FormsFit g → new ≡ old ++ word_literals g own entry given)
-    → FormsFit g → from + width d < 2 ^ 32 → new ≡ old ++ literals g d from
-leaf_literals g d cat entry given picks from to own old new t p e h written forms fits =
-    let few : from + 1 < 2 ^ 32 = subst (λ (x : Tree). from + width x < 2 ^ 32) t fits in
-    let same : to ≡ from + 1 = omega arith in
-    let here : own ≡ edge cat from (from + 1) = e ∙ ap (edge cat from) same in
-    written forms ∙ (λ i. old ++ word_literals g (here i) entry (p i)) ∙ ap (λ x. old ++ literals g x from) (sym t)
-
-pub leaf_facts : (s : List TokenForms) (d : Tree) (cat : Name) (entry : ℕ) (picks : List ℕ) (from to : ℕ) (own : Edge) (old new : List Fact)
-    → d ≡ leaf cat entry picks → own ≡ edge cat from to → to ≡ min (from + 1) (2 ^ 32 - 1)
-    → new ≡ old ++ word_facts (slice_get s own.from) own
-    → from + width d < 2 ^ 32 → new ≡ old ++ tree_facts s d from
-leaf_facts s d cat entry picks from to own old new t e h written fits =
-    let few : from + 1 < 2 ^ 32 = subst (λ (x : Tree). from + width x < 2 ^ 32) t fits in
-    let same : to ≡ from + 1 = omega arith in
-    let here : own ≡ edge cat from (from + 1) = e ∙ ap (edge cat from) same in
-    written ∙ (λ i. old ++ word_facts (slice_get s ((here i).from)) (here i)) ∙ ap (λ x. old ++ tree_facts s x from) (sym t)
-
--- a part alone
-alone_none : (part : Part) → part.below ≡ None → parts_from (part ∷ []) ≡ empty part.occ part.picks.items no_part
-alone_none part e = ap (λ h. part_before part.occ part.picks.items h no_part) e
-
-alone_some : (part : Part) (below : Box Derivation Global) (held : Derivation) → part.below ≡ Some below → held ≡ below.value
-    → parts_from (part ∷ []) ≡ daughter part.occ part.picks.items (tree_of held) no_part
-alone_some part below held e f =
-    ap (λ h. part_before part.occ part.picks.items h no_part) e ∙ ap (λ (x : Derivation). daughter part.occ part.picks.items (tree_of x) no_part) (sym f)
-
-pub none_literals : (g : Grammar) (items : List Item) (mother : Edge) (part : Part) (at : ℕ) (old new : List Literal)
-    → part.below ≡ None → (ItemsFit items → new ≡ old ++ item_literals items mother mother part.occ part.picks.items at at)
-    → FormsFit g → ItemsFit items → at + parts_width (parts_from (part ∷ [])) < 2 ^ 32
-    → (at ≡ at + parts_width (parts_from (part ∷ []))) × (new ≡ old ++ parts_literals g items mother (parts_from (part ∷ [])) at)
-none_literals g items mother part at old new e written forms few fits =
-    let alone = alone_none part e in
-    let nothing : parts_width (parts_from (part ∷ [])) ≡ 0 = ap parts_width alone in
-    let here : List Literal = item_literals items mother mother part.occ part.picks.items at at in
-    (omega arith, written few ∙ ap (λ xs. old ++ xs) (sym (append-nil here)) ∙ ap (λ ps. old ++ parts_literals g items mother ps at) (sym alone))
-
-pub some_literals : (g : Grammar) (items : List Item) (mother : Edge) (part : Part) (below : Box Derivation Global) (held : Derivation) (own : Edge) (at : ℕ) (old mid new : List Literal)
-    → part.below ≡ Some below → held ≡ below.value
-    → (at + width (tree_of held) < 2 ^ 32 → own ≡ edge_of (tree_of held) at)
-    → (ItemsFit items → mid ≡ old ++ item_literals items mother own part.occ part.picks.items at own.to)
-    → (FormsFit g → at + width (tree_of held) < 2 ^ 32 → new ≡ mid ++ literals g (tree_of held) at)
-    → FormsFit g → ItemsFit items → at + parts_width (parts_from (part ∷ [])) < 2 ^ 32
-    → (own.to ≡ at + parts_width (parts_from (part ∷ []))) × (new ≡ old ++ parts_literals g items mother (parts_from (part ∷ [])) at)
-some_literals g items mother part below held own at old mid new e f edged item_done below_done forms few fits =
-    let alone = alone_some part below held e f in
-    let wide : parts_width (parts_from (part ∷ [])) ≡ width (tree_of held) + 0 = ap parts_width alone in
-    let fit : at + width (tree_of held) < 2 ^ 32 = omega arith in
-    let is = edged fit in
-    let end : own.to ≡ at + width (tree_of held) = ap (λ x. x.to) is in
-    let here : List Literal = item_literals items mother (edge_of (tree_of held) at) part.occ part.picks.items at (at + width (tree_of held)) in
-    let inside : List Literal = literals g (tree_of held) at in
-    let item : item_literals items mother own part.occ part.picks.items at own.to ≡ here = λ i. item_literals items mother (is i) part.occ part.picks.items at ((is i).to) in
-    (omega arith,
-     below_done forms fit ∙ ap (λ xs. xs ++ inside) (item_done few ∙ ap (λ xs. old ++ xs) item) ∙ append_assoc old here inside
-     ∙ ap (λ xs. old ++ (here ++ xs)) (sym (append-nil inside)) ∙ ap (λ ps. old ++ parts_literals g items mother ps at) (sym alone))
-
-pub none_facts : (s : List TokenForms) (mother : Edge) (part : Part) (at : ℕ) (old : List Fact)
-    → part.below ≡ None → (at ≡ at + parts_width (parts_from (part ∷ []))) × (old ≡ old ++ parts_facts s mother (parts_from (part ∷ [])) at)
-none_facts s mother part at old e =
-    let alone = alone_none part e in
-    let nothing : parts_width (parts_from (part ∷ [])) ≡ 0 = ap parts_width alone in
-    (omega arith, sym (append-nil old) ∙ ap (λ ps. old ++ parts_facts s mother ps at) (sym alone))
-
-pub some_facts : (s : List TokenForms) (mother : Edge) (part : Part) (below : Box Derivation Global) (held : Derivation) (own : Edge) (at : ℕ) (old mid new : List Fact)
-    → part.below ≡ Some below → held ≡ below.value
-    → (at + width (tree_of held) < 2 ^ 32 → own ≡ edge_of (tree_of held) at)
-    → mid ≡ old ++ under own mother ∷ []
-    → (at + width (tree_of held) < 2 ^ 32 → new ≡ mid ++ tree_facts s (tree_of held) at)
-    → at + parts_width (parts_from (part ∷ [])) < 2 ^ 32
-    → (own.to ≡ at + parts_width (parts_from (part ∷ []))) × (new ≡ old ++ parts_facts s mother (parts_from (part ∷ [])) at)
-some_facts s mother part below held own at old mid new e f edged pushed below_done fits =
-    let alone = alone_some part below held e f in
-    let wide : parts_width (parts_from (part ∷ [])) ≡ width (tree_of held) + 0 = ap parts_width alone in
-    let fit : at + width (tree_of held) < 2 ^ 32 = omega arith in
-    let is = edged fit in
-    let end : own.to ≡ at + width (tree_of held) = ap (λ x. x.to) is in
-    let here : List Fact = under (edge_of (tree_of held) at) mother ∷ [] in
-    let inside : List Fact = tree_facts s (tree_of held) at in
-    (omega arith,
-     below_done fit ∙ ap (λ xs. xs ++ inside) (pushed ∙ ap (λ x. old ++ under x mother ∷ []) is) ∙ append_assoc old here inside
-     ∙ ap (λ xs. old ++ (here ++ xs)) (sym (append-nil inside)) ∙ ap (λ ps. old ++ parts_facts s mother ps at) (sym alone))
-
 -- one turn of a loop over parts, where F gives what is written of them
 pub parts_turn : {X : Type 0} (F : Parts → ℕ → List X)
     → ((part : Part) (rest : List Part) (at : ℕ) → F (parts_from (part ∷ rest)) at ≡ F (parts_from (part ∷ [])) at ++ F (parts_from rest) (at + parts_width (parts_from (part ∷ []))))
@@ -173,13 +88,14 @@ parts_turn F one parts i part start at next old now new l e fits kept done =
     let rest : List Part = drop (i + 1) parts in
     let split : drop i parts ≡ part ∷ rest = drop_more parts i part l ∙ ap (λ x. x ∷ rest) (sym e) in
     let wide : parts_width (parts_from (drop i parts)) ≡ parts_width (parts_from (part ∷ [])) + parts_width (parts_from rest) =
-        ap (λ xs. parts_width (parts_from xs)) split ∙ width_one part rest in
+    ap (λ xs. parts_width (parts_from xs)) split ∙ width_one part rest in
     let d = done (omega (arith, kept.0, wide)) in
     let first = F (parts_from (part ∷ [])) at in
-    let behind = ap (λ n. F (parts_from rest) n) d.0 in
-    (omega (arith, kept.0, wide, d.0),
-     (λ i. d.1 i ++ behind i) ∙ append_assoc now first (F (parts_from rest) (at + parts_width (parts_from (part ∷ []))))
-     ∙ ap (λ xs. now ++ xs) (sym (one part rest at)) ∙ ap (λ xs. now ++ F (parts_from xs) at) (sym split) ∙ kept.1)
+    let behind = ap (λ n. F (parts_from rest) n) d.0 in (
+      omega (arith, kept.0, wide, d.0),
+      (λ i. d.1 i ++ behind i) ∙ append_assoc now first (F (parts_from rest) (at + parts_width (parts_from (part ∷ []))))
+          ∙ ap (λ xs. now ++ xs) (sym (one part rest at)) ∙ ap (λ xs. now ++ F (parts_from xs) at) (sym split) ∙ kept.1,
+    )
 
 -- and its end
 pub parts_end : {X : Type 0} (F : Parts → ℕ → List X) → ((at : ℕ) → F no_part at ≡ []) → (parts : List Part) (i at : ℕ) (now whole : List X)
@@ -187,9 +103,6 @@ pub parts_end : {X : Type 0} (F : Parts → ℕ → List X) → ((at : ℕ) → 
 parts_end F nothing parts i at now whole l e =
     sym (append-nil now) ∙ ap (λ xs. now ++ xs) (sym (nothing at)) ∙ ap (λ x. now ++ F x at) (sym (at_drop_all parts_from parts i l)) ∙ e
 
--- what is pushed of a word
-pub word_pushed : (o : Option TokenForms) (token : TokenForms) (own : Edge) (old : List Fact) → o ≡ Some token → old ++ word own token.text ∷ [] ≡ old ++ word_facts o own
-word_pushed o token own old e = ap (λ x. old ++ word_facts x own) (sym e)
-
+-- a word without a token has no fact
 pub no_word : (o : Option TokenForms) (own : Edge) (old : List Fact) → o ≡ None → old ≡ old ++ word_facts o own
 no_word o own old e = sym (append-nil old) ∙ ap (λ x. old ++ word_facts x own) (sym e)

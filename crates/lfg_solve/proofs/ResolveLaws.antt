@@ -25,7 +25,7 @@ branch_taken it s all k picks others index old left b bs before rest own next no
     let here : form_count b + branch_forms bs ≡ branch_forms left = ap branch_forms (sym l) in
     let fit : next + form_count b < 2 ^ 32 = omega (arith, here, v.0) in
     let taken : branch_literals it left before rest next ≡ resolved it b own next =
-        (λ i. branch_literals it (l i) (z i) rest next) ∙ ap (λ xs. resolved it b xs next) (sym o) in
+    (λ i. branch_literals it (l i) (z i) rest next) ∙ ap (λ xs. resolved it b xs next) (sym o) in
     let same : schema_literals it s picks index ≡ branch_literals it all k others index = λ j. schema_literals it (e j) (f j) index in
     written fit ∙ ap (λ xs. now ++ xs) (sym taken) ∙ v.1 ∙ ap (λ xs. old ++ xs) (sym same)
 

@@ -213,7 +213,7 @@ fn push_parts_literals(
         mother.now.edge.now.from + parts_width (parts_from parts.now) < 2 ^ 32 →
         list.new.items ≡ list.old.items
         ++ parts_literals grammar.now mother.now.items.now mother.now.edge.now
-            (parts_from parts.now) mother.now.edge.now.from) }
+        (parts_from parts.now) mother.now.edge.now.from) }
 {
     let mut at = mother.edge.from;
     for part in parts {
@@ -238,7 +238,7 @@ fn push_part_literals(
         (next ≡ at + parts_width (parts_from (part.now ∷ [])))
         × (list.new.items ≡ list.old.items
         ++ parts_literals grammar.now mother.now.items.now mother.now.edge.now
-            (parts_from (part.now ∷ [])) at)) }
+        (parts_from (part.now ∷ [])) at)) }
 {
     match &part.below {
         None => {
@@ -269,7 +269,7 @@ impl Mother<'_> {
         ensures { OnOk result (ItemsFit self.now.items.now →
             list.new.items ≡ list.old.items
             ++ item_literals self.now.items.now self.now.edge.now down.now
-                part.now.occ part.now.picks.items at to) }
+            part.now.occ part.now.picks.items at to) }
     {
         let site = Site::Item {
             edge: self.edge.clone()?,

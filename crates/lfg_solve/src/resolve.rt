@@ -91,10 +91,8 @@ fn schema_places(schema: &Schema<Paths>) -> usize
             count
         }
         Schema::Maybe(inside) => places(inside).saturating_add(1),
-        Schema::Constrain { .. }
-        | Schema::Exists { .. }
-        | Schema::Mark(_)
-        | Schema::Call { .. } => 0,
+        Schema::Constrain { .. } | Schema::Exists { .. } | Schema::Mark(_) | Schema::Call { .. } =>
+            0,
     }
 }
 

@@ -17,5 +17,5 @@ push_tree_facts-returns-in_ok-mother-in-Inner t c =
     let count = c.parts_width.ensures ∙ ap (λ (xs : List Part). min (parts_width (parts_from xs)) (2 ^ 32 - 1)) twice in
     on_ok_weaker c.push_parts_facts.result
     (inner_facts c.args.tokens.now (tree_of c.args.derivation.now) c.in-Inner.cat (parts_from parts) c.args.from c.parts_width.result c.saturating_add-in-Inner.result c.in_ok-mother-in-Inner.mother
-      c.args.facts.now.items c.push_parts_facts.new.facts.items is_inner c.in_ok-mother-in-Inner.ensures count c.saturating_add-in-Inner.ensures)
+    c.args.facts.now.items c.push_parts_facts.new.facts.items is_inner c.in_ok-mother-in-Inner.ensures count c.saturating_add-in-Inner.ensures)
     c.push_parts_facts.ensures

@@ -8,4 +8,4 @@ invariant-push_parts_facts-loop-part l =
     l.initial.at + parts_width (parts_from l.parts) < 2 ^ 32
     → (l.at + parts_width (parts_from (drop l.part-index l.parts)) ≡ l.initial.at + parts_width (parts_from l.parts))
     × (l.facts.items ++ parts_facts l.tokens l.mother (parts_from (drop l.part-index l.parts)) l.at
-      ≡ l.initial.facts.items ++ parts_facts l.tokens l.mother (parts_from l.parts) l.initial.at)
+    ≡ l.initial.facts.items ++ parts_facts l.tokens l.mother (parts_from l.parts) l.initial.at)

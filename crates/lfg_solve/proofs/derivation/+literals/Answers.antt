@@ -17,7 +17,7 @@ push_literals-returns-in_ok-edge-in-Inner t c =
     let count = c.parts_width.ensures ∙ ap (λ (xs : List Part). min (parts_width (parts_from xs)) (2 ^ 32 - 1)) twice in
     on_ok_weaker c.push_parts_literals.result
     (inner_literals c.args.grammar.now (tree_of c.args.derivation.now) c.in-Inner.cat (parts_from parts) c.args.from c.parts_width.result c.saturating_add-in-Inner.result c.in_ok-edge-in-Inner.edge c.items_of.result.now
-      c.args.list.now.items c.push_parts_literals.new.list.items is_inner c.in_ok-edge-in-Inner.ensures count c.saturating_add-in-Inner.ensures c.items_of.ensures)
+    c.args.list.now.items c.push_parts_literals.new.list.items is_inner c.in_ok-edge-in-Inner.ensures count c.saturating_add-in-Inner.ensures c.items_of.ensures)
     c.push_parts_literals.ensures
 
 pub push_parts_literals-loop-part-preserved : goal.push_parts_literals-loop-part-preserved

@@ -7,5 +7,5 @@ pub returns : goal.returns
 returns c =
     on_ok_weaker c.push_resolved.result
     (word_written c.args.grammar.now c.args.own.now c.in_ok-clone.field-0 c.args.entry c.args.picks.now (annotation_of c.entry_schemata.result.now) c.args.list.now.items c.push_resolved.new.literals.items
-      c.in_ok-clone.ensures.cases c.entry_schemata.ensures)
+    c.in_ok-clone.ensures.cases c.entry_schemata.ensures)
     c.push_resolved.ensures

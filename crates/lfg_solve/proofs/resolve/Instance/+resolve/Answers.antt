@@ -24,9 +24,9 @@ push_schema-returns-then-before-eq0 t c =
     let count = c.places.ensures ∙ ap (λ (xs : List (declared.Schema Paths)). min (length (places (annotation_of xs))) (2 ^ 64 - 1)) twice in
     on_ok_weaker c.push_resolved.result
     (branch_taken (instance_of c.args.self.now) (schema_of c.args.schema.now) (branches_from branches) c.in-Some.taken c.args.picks.now c.in-Some.others.now c.args.index c.args.literals.now.items
-      _ (annotation_of c.deref-then-before-eq0.result.now) _ c.loop-branch.before c.loop-branch.rest.now _ c.loop-branch.next c.loop-branch.literals.items c.push_resolved.new.literals.items
-      is_either split c.loop-branch.invariant (left ∙ first ∙ held) c.if-before-eq0.true
-      (c.cut.ensures.own (length (places (annotation_of c.deref-then-before-eq0.result.now))) count))
+    _ (annotation_of c.deref-then-before-eq0.result.now) _ c.loop-branch.before c.loop-branch.rest.now _ c.loop-branch.next c.loop-branch.literals.items c.push_resolved.new.literals.items
+    is_either split c.loop-branch.invariant (left ∙ first ∙ held) c.if-before-eq0.true
+    (c.cut.ensures.own (length (places (annotation_of c.deref-then-before-eq0.result.now))) count))
     c.push_resolved.ensures
 
 pub push_schema-returns-after-loop-branch : goal.push_schema-returns-after-loop-branch
@@ -43,5 +43,5 @@ push_schema-returns-else-taken-ne0 t c =
     let split = rw c.in-Some-first_pick.is at c.first_pick-in-Maybe.ensures in
     on_ok_weaker c.push_resolved-in-Maybe.result
     (option_taken (instance_of c.args.self.now) (schema_of c.args.schema.now) (annotation_of c.deref-in-Maybe.result.now) c.args.picks.now c.in-Some-first_pick.others.now c.in-Some-first_pick.taken c.args.index
-      c.args.literals.now.items c.push_resolved-in-Maybe.new.literals.items is_maybe split (search rules))
+    c.args.literals.now.items c.push_resolved-in-Maybe.new.literals.items is_maybe split (search rules))
     c.push_resolved-in-Maybe.ensures
