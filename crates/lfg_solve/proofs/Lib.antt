@@ -3,6 +3,9 @@ pub mod Dividing
 pub mod Finding
 pub mod MarkLaws
 pub mod Prefixes
+pub mod DerivationLaws
+pub mod FitLaws
+pub mod PartLaws
 pub mod Relabelling
 pub mod Sames
 pub mod Solving
