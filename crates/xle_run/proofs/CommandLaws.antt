@@ -1,6 +1,6 @@
 -- From what is known of the files to what is known of the command over them.
-use Rattle.std.proofs.Common.{◌≡◌, ℕ, List, [], ◌∷◌, Some, None, Option, sym, subst}
-use Rattle.std.specs.Prelude.{Result, Ok, Err}
+use Rattle.std.proofs.Common.{◌≡◌, ℕ, List, [], ◌∷◌, Some, None, Option, sym, subst, inl, inr}
+use Rattle.std.specs.Prelude.{Result, Ok, Err, IfErr, OnOk, OnErr, ◌⊎◌}
 use Rattle.lfg_io.specs.Shelf.{Files}
 use Rattle.lfg_terms.specs.declared.grammar.Grammar.{Grammar}
 use Rattle.lfg_model.specs.declared.status.GrammarFault.{GrammarFault}
@@ -8,8 +8,9 @@ use Rattle.lfg_model.specs.declared.status.GrammarFault.TheVariants.{Entry}
 use Rattle.lfg_model.specs.declared.status.Status.{Status}
 use Rattle.lfg_model.specs.declared.status.Status.TheVariants.{Done, Usage, ReadFault, BadGrammar, WriteFault, Memory}
 use Rattle.lfg_model.specs.Lists.{In, here, later}
-use Rattle.lfg_model.specs.Output.{Command, command_of, readings, IfBadGrammar, IsOutput, bad_grammar, bad_sentences}
-use Rattle.xle_run.specs.Causes.{IsRefused, IsFailure}
+use Rattle.lfg_model.specs.Output.{Command, command_of, files_of, readings, IfBadGrammar, IsOutput, bad_grammar, bad_sentences}
+use Rattle.xle_run.specs.Causes.{IsRefused, IsUnwritten, IsFailure, IsRunFailure}
+use Rattle.xle_run.proofs.CauseLaws.{unwritten_sections, failed_command}
 use Rattle.xle_run.specs.Loads.{file_in, GivesGrammar, GivesNoGrammar, GivesText, GivesNoText, AcceptsText, Accepts, AreAccepted}
 
 -- a failure over some files is one over more
@@ -96,3 +97,47 @@ accepts_text T files s text (Err Usage) h = tt
 accepts_text T files s text (Err (ReadFault name)) h = tt
 accepts_text T files s text (Err (BadGrammar name fault)) h = tt
 accepts_text T files s text (Err Memory) h = tt
+
+module _ (T : Type 0) where
+  pub later_failures : (g s : List ℕ) (sure sure' : List (List ℕ)) (before before' now : ℕ) (last : List ℕ) (ob on : ℕ) (r : Result T Status) → sure' ≡ sure → before' ≡ before
+      → IfErr r (IsFailure (s ∷ []) sure' before' now last ob on) → IfErr r (IsFailure (g ∷ s ∷ []) sure before now last ob on)
+  later_failures g s sure sure' before before' now last ob on (Ok v) e f h = tt
+  later_failures g s sure sure' before before' now last ob on (Err st) e f h = later_failure g s sure sure' before before' now last ob on st e f h
+
+  pub unwritten_all : (files sure : List (List ℕ)) (before now : ℕ) (last : List ℕ) (ob on : ℕ) (r : Result T Status) → IfErr r (IsUnwritten ob on)
+      → IfErr r (IsFailure files sure before now last ob on)
+  unwritten_all files sure before now last ob on (Ok v) h = tt
+  unwritten_all files sure before now last ob on (Err st) h = unwritten_sections files sure before now last ob on st h
+
+  -- what was not written tells of no file that is not accepted
+  pub unwritten_not_bad : (P : Status → List ℕ → GrammarFault → Type 0) (ob on : ℕ) (r : Result T Status) → IfErr r (IsUnwritten ob on) → IfErr r (λ st. IfBadGrammar st (P st))
+  unwritten_not_bad P ob on (Ok v) h = tt
+  unwritten_not_bad P ob on (Err (BadGrammar name fault)) h = absurd h
+  unwritten_not_bad P ob on (Err Done) h = tt
+  unwritten_not_bad P ob on (Err Usage) h = tt
+  unwritten_not_bad P ob on (Err (ReadFault name)) h = tt
+  unwritten_not_bad P ob on (Err WriteFault) h = tt
+  unwritten_not_bad P ob on (Err Memory) h = tt
+
+  pub failed_commands : (words : List (List ℕ)) (c : Command) (sure : List (List ℕ)) (before now : ℕ) (last : List ℕ) (ob on : ℕ) (r : Result T Status)
+      → command_of words ≡ Some c → IfErr r (IsFailure (files_of (Some c)) sure before now last ob on) → IfErr r (IsRunFailure words sure before now last ob on)
+  failed_commands words c sure before now last ob on (Ok v) e h = tt
+  failed_commands words c sure before now last ob on (Err st) e h = failed_command words c sure before now last ob on st e h
+
+-- what never holds of a file that is not accepted, the file being accepted or not read
+pub never_bad : (P : List ℕ → GrammarFault → Type 0) (st : Status) → IfBadGrammar st (λ name fault. ⊥) → IfBadGrammar st P
+never_bad P (BadGrammar name fault) h = absurd h
+never_bad P Done h = tt
+never_bad P Usage h = tt
+never_bad P (ReadFault name) h = tt
+never_bad P WriteFault h = tt
+never_bad P Memory h = tt
+
+-- the line was put, or a prefix of it after a fault
+pub told_by : (T E A B C : Type 0) (r : Result T E) → OnOk r A → OnErr r B → OnErr r C → A ⊎ (B × C)
+told_by T E A B C (Ok v) a b c = inl a
+told_by T E A B C (Err e) a b c = inr (b, c)
+
+-- at these two answers the files are accepted
+pub accepted_at : (files : Files) (c : Option Command) (st : Status) → Accepts {T = Unit {0}} files c (Err st) → st ≡ WriteFault → AreAccepted files c
+accepted_at files c st h e = subst (λ s. Accepts {T = Unit {0}} files c (Err s)) e h
