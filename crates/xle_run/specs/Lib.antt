@@ -1,2 +1,3 @@
+pub mod Branches
 pub mod Causes
 pub mod Commands
