@@ -1,26 +1,23 @@
 -- What is written of a word, of a part and of an inner node.
-use Rattle.std.proofs.Common.{◌≡◌, ℕ, zero, suc, ◌+◌, ◌-◌, ◌^◌, ◌<◌, ◌≤◌, min, Option, Some, None, List, [], ◌∷◌, ◌++◌, length, get_or, drop, sym, ap, ◌∙◌, subst, append_assoc, arith}
+use Rattle.std.proofs.Common.{◌≡◌, ℕ, ◌+◌, ◌-◌, ◌^◌, ◌<◌, ◌≤◌, min, Option, None, List, [], ◌∷◌, ◌++◌, length, get_or, drop, sym, ap, ◌∙◌, subst, append_assoc, arith}
 use Rattle.std.proofs.lemmas.List.{append-nil, drop_more, at_drop_all}
 use Rattle.std.specs.Prelude.{slice_get}
-use Rattle.std.specs.declared.boxed.Box.{Box}
-use Rattle.std.specs.Global.{Global}
 use Rattle.lfg_terms.specs.declared.node.Edge.{Edge}
 use Rattle.lfg_terms.specs.declared.node.Fact.{Fact}
 use Rattle.lfg_terms.specs.declared.literal.Site.TheVariants as site
 use Rattle.lfg_terms.specs.declared.literal.Literal.{Literal}
 use Rattle.lfg_terms.specs.declared.grammar.Item.{Item}
 use Rattle.lfg_terms.specs.declared.grammar.Grammar.{Grammar}
-use Rattle.lfg_terms.specs.declared.tree.Derivation.{Derivation}
 use Rattle.lfg_terms.specs.declared.tree.Part.{Part}
 use Rattle.lfg_terms.specs.declared.tree.TokenForms.{TokenForms}
-use Rattle.lfg_model.specs.Terms.{Name, Annotation, Tree, leaf, inner, Parts, no_part, empty, daughter, tree_of}
+use Rattle.lfg_model.specs.Terms.{Name, Annotation, Tree, inner, Parts, no_part}
 use Rattle.lfg_model.specs.Places.{form_count}
 use Rattle.lfg_model.specs.Resolve.{resolved}
 use Rattle.lfg_model.specs.Derive.{edge, rule_of, item_at}
-use Rattle.lfg_model.specs.Trees.{width, parts_width, edge_of, items_of, item_annotation, entry_annotation, literals, parts_literals, tree_facts, parts_facts, under, word, word_facts}
+use Rattle.lfg_model.specs.Trees.{width, parts_width, items_of, item_annotation, entry_annotation, literals, parts_literals, tree_facts, parts_facts, word_facts}
 use Rattle.lfg_solve.specs.Annotations.{item_literals, word_literals}
 use Rattle.lfg_solve.specs.Fits.{ItemsFit, FormsFit}
-use Rattle.lfg_solve.specs.Views.{part_before, parts_from}
+use Rattle.lfg_solve.specs.Views.{parts_from}
 use Rattle.lfg_solve.proofs.PartLaws.{width_one}
 use Rattle.lfg_solve.proofs.FitLaws.{rule_fits, item_fits, entry_fits}
 

@@ -4,7 +4,7 @@ use Rattle.std.specs.declared.vec.Vec.{Vec}
 use Rattle.std.specs.Global.{Global}
 use Rattle.lfg_terms.specs.declared.grammar.Schema as declared
 use Rattle.lfg_terms.specs.declared.grammar.Schema.{Either, Maybe, Row_of-Schema, end_of-Schema, more_of-Schema, items-the_row-Schema, items_hidden-the_row-Schema-0, Row_of-Schema-Either-0-1, end_of-Schema-Either-0-1, more_of-Schema-Either-0-1, items-the_row-Schema-Either-0-1, items_hidden-the_row-Schema-Either-0-1-1}
-use Rattle.lfg_terms.specs.declared.grammar.Schema.TheBlock.{hidden-the_row-Schema-0, hidden-the_row-Schema-Either-0-1-1, shown-the_row-Schema-0, items_shown-the_row-Schema-0}
+use Rattle.lfg_terms.specs.declared.grammar.Schema.TheBlock.{hidden-the_row-Schema-0, hidden-the_row-Schema-Either-0-1-1, items_shown-the_row-Schema-0}
 use Rattle.lfg_terms.specs.declared.tree.Derivation.{Derivation, Inner, None', Some', Row_of-Part, end_of-Part, more_of-Part, items-the_row-Part, items_hidden-the_row-Part-0}
 use Rattle.lfg_terms.specs.declared.tree.Derivation.TheBlock.{hidden-the_row-Part-0}
 use Rattle.lfg_terms.specs.declared.tree.Part.{Part}

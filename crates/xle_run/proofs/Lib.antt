@@ -15,3 +15,4 @@ pub mod SearchSteps
 pub mod SearchWords
 pub mod LoadLaws
 pub mod CommandLaws
+pub mod PairTextLaws

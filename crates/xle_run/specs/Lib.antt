@@ -1,4 +1,5 @@
 pub mod Categories
+pub mod Branches
 pub mod Causes
 pub mod Commands
 pub mod Drafts

@@ -1,6 +1,5 @@
-use Rattle.std.proofs.Common.{◌≡◌, ◌-◌, ◌^◌, ap, min, arith, rules}
-use Rattle.lfg_model.specs.Places.{schema_forms, branch_forms, form_count}
-use Rattle.lfg_model.specs.Terms.{annotation_of}
+use Rattle.std.proofs.Common.{ap, arith}
+use Rattle.lfg_model.specs.Places.{schema_forms, branch_forms}
 use Rattle.lfg_solve.specs.Views.{branches_from}
 use Rattle.lfg_solve.proofs.ViewLaws.{either_schema, maybe_schema}
 use Rattle.std.proofs.lemmas.List.{at_drop_all}

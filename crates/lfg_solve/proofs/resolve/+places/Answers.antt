@@ -1,6 +1,5 @@
-use Rattle.std.proofs.Common.{◌≡◌, ◌-◌, ◌^◌, ap, min, length, arith, rules}
-use Rattle.lfg_model.specs.Places.{schema_places, branch_places, places}
-use Rattle.lfg_model.specs.Terms.{annotation_of}
+use Rattle.std.proofs.Common.{ap, length, arith}
+use Rattle.lfg_model.specs.Places.{schema_places, branch_places}
 use Rattle.lfg_solve.specs.Views.{branches_from}
 use Rattle.lfg_solve.proofs.ViewLaws.{either_schema, maybe_schema}
 use Rattle.std.proofs.lemmas.List.{at_drop_all}

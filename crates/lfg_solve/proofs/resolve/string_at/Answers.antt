@@ -1,5 +1,4 @@
-use Rattle.std.proofs.Common.{rules, arith}
-use Rattle.std.proofs.lemmas.Grind.{common_steps}
+use Rattle.std.proofs.Common.{rules}
 use Rattle.lfg_solve.proofs.StringLaws.{string_at-get_or}
 use Rattle.lfg_solve.proofs.resolve.string_at.Goals as goal
 

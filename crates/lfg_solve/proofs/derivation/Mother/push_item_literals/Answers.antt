@@ -1,4 +1,3 @@
-use Rattle.std.proofs.Common.{sym, ap}
 use Rattle.std.proofs.lemmas.Result.{on_ok_weaker}
 use Rattle.lfg_model.specs.Terms.{annotation_of}
 use Rattle.lfg_solve.proofs.DerivationLaws.{item_written}
