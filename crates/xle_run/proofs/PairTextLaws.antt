@@ -31,7 +31,7 @@ pub tree_closed : (deeper depth : ℕ) (facts : List Fact) (e : Edge) (i : ℕ) 
 tree_closed deeper depth facts e i old opened named now new d o n kept l c =
     let inside : List ℕ = flat_map (branch_text (text_below deeper facts)) (branches_under facts e) in
     let all : now ≡ named ++ inside =
-        sym (append-nil now) ∙ ap (λ bs. now ++ flat_map (branch_text (text_below deeper facts)) (branches_under bs e)) (sym (at_drop_all (λ xs. xs) facts i l)) ∙ kept in
+    sym (append-nil now) ∙ ap (λ bs. now ++ flat_map (branch_text (text_below deeper facts)) (branches_under bs e)) (sym (at_drop_all (λ xs. xs) facts i l)) ∙ kept in
     let front : named ≡ (old ++ 91 ∷ []) ++ name_text e.cat = n ∙ ap (λ xs. xs ++ name_text e.cat) o in
     let whole : (((old ++ 91 ∷ []) ++ name_text e.cat) ++ inside) ++ 93 ∷ [] ≡ old ++ ((((91 ∷ []) ++ name_text e.cat) ++ inside) ++ 93 ∷ []) = simp append_assoc in
     c ∙ ap (λ xs. xs ++ 93 ∷ []) (all ∙ ap (λ xs. xs ++ inside) front) ∙ whole ∙ ap (λ k. old ++ text_below k facts e) (sym d)

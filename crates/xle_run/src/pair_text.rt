@@ -103,7 +103,7 @@ fn is_daughter(facts: &[Fact], edge: &Edge) -> bool
 fn root_at<'a>(facts: &[Fact], fact: &'a Fact) -> Option<&'a Edge>
     ensures { option_copied result
         ≡ find (λ e. not (list_any (λ f. is_to e (branch_of f.args)) facts.now))
-            (mothers (branch_of fact.now.args)) }
+        (mothers (branch_of fact.now.args)) }
 {
     match mother_of(branch_of(fact)) {
         Some(mother) => {
@@ -165,7 +165,7 @@ fn push_branch(
 ) -> Result<(), AllocError>
     ensures { OnOk result (text.new.items ≡ text.old.items
         ++ flat_map (branch_text (text_below depth facts.now))
-            (branches_under (fact.now ∷ []) edge.now)) }
+        (branches_under (fact.now ∷ []) edge.now)) }
 {
     let branch = branch_of(fact);
     if !is_under(branch, edge) {
