@@ -20,20 +20,20 @@ returns-in-Err-clause-accepted g c files told =
     refused_accepts_text (Unit {0}) files c.args.sentences.now c.args.sentences.now (g.F.Shelf.sure c.args.shelf.now) (g.F.Shelf.faults c.args.shelf.now)
     (g.F.Shelf.faults c.load_file.new.shelf) (g.F.Shelf.last_failed c.load_file.new.shelf) c.in-Err.status c.in-Err.ensures.refused
 
-pub returns-in-None-clause-failed : goal.returns-in-None-clause-failed
-returns-in-None-clause-failed g c =
+pub returns-clause-failed : goal.returns-clause-failed
+returns-clause-failed g c =
     refused_file c.args.sentences.now (c.args.sentences.now ∷ []) (g.F.Shelf.sure c.args.shelf.now) (g.F.Shelf.faults c.args.shelf.now)
     (g.F.Shelf.faults c.load_file.new.shelf) (g.F.Shelf.last_failed c.load_file.new.shelf) (g.O.Sink.faults c.args.out.now) (g.O.Sink.faults c.args.out.now) c.not_thin.result here (c.not_thin.ensures _ _ _ _)
 
-pub returns-in-None-clause-refused : goal.returns-in-None-clause-refused
-returns-in-None-clause-refused g c files name told gives =
+pub returns-clause-refused : goal.returns-clause-refused
+returns-clause-refused g c files name told gives =
     let file = c.in-Ok.ensures.loaded files told in
     no_text_output files name c.args.sentences.now (g.F.Shelf.sure c.args.shelf.now) (g.F.Shelf.faults c.args.shelf.now) (g.F.Shelf.faults c.load_file.new.shelf) (g.F.Shelf.last_failed c.load_file.new.shelf)
     c.args.grammar.now c.not_thin.result gives (c.not_thin.ensures _ _ _ _)
     (at_bad_grammar c.not_thin.result (gives_no_text 4194305 files c.args.sentences.now file.0 c.deref.result.now file.1 (c.deref.ensures.value ∙ file.2) (lit< tt) c.in-None.ensures))
 
-pub returns-in-None-clause-accepted : goal.returns-in-None-clause-accepted
-returns-in-None-clause-accepted g c files told =
+pub returns-clause-accepted : goal.returns-clause-accepted
+returns-clause-accepted g c files told =
     refused_accepts_text (Unit {0}) files c.args.sentences.now c.args.sentences.now (g.F.Shelf.sure c.args.shelf.now) (g.F.Shelf.faults c.args.shelf.now)
     (g.F.Shelf.faults c.load_file.new.shelf) (g.F.Shelf.last_failed c.load_file.new.shelf) c.not_thin.result (c.not_thin.ensures _ _ _ _)
 
