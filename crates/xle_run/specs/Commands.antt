@@ -1,7 +1,6 @@
--- The program's commands as those of the definitions.
-use Rattle.xle_run.specs.declared.command.Command.{Command}
-use Rattle.xle_run.specs.declared.command.Command.TheVariants as program
+-- The program's command as that of the definitions.
+use Rattle.xle_run.specs.declared.command.Command as program
 use Rattle.lfg_model.specs.Output as output
 
-abbrev pub command_view : Command → output.Command
-command_view (program.Readings grammar sentences) = output.readings grammar.now sentences.now
+abbrev pub command_view : program.Command → output.Command
+command_view it = output.readings it.grammar.now it.sentences.now

@@ -2,13 +2,11 @@ ghost use Rattle.std.specs.Prelude.{◌≡◌, None, Some, map, string_bytes, Ma
 ghost use Rattle.lfg_model.specs.Output.{command_of};
 ghost use Rattle.xle_run.specs.Commands.{command_view};
 
-/// A command with its files, as words of the command line.
+/// The command `readings` with its files, as words of the command line.
 #[derive(Clone, Copy)]
-pub(crate) enum Command<'a> {
-    Readings {
-        grammar: &'a str,
-        sentences: &'a str,
-    },
+pub(crate) struct Command<'a> {
+    pub(crate) grammar: &'a str,
+    pub(crate) sentences: &'a str,
 }
 
 /// The command that the words say, if they fit one.
@@ -19,7 +17,7 @@ pub(crate) fn command_of(words: &[String]) -> Option<Command<'_>>
         return None;
     };
     if name.as_str() == "readings" {
-        Some(Command::Readings {
+        Some(Command {
             grammar: grammar.as_str(),
             sentences: sentences.as_str(),
         })

@@ -7,7 +7,7 @@ ghost use Rattle.lfg_io.specs.Shelf.{Files};
 ghost use Rattle.xle_run.specs.Loads.{file_in, Accepts, AreAccepted};
 ghost use Rattle.xle_run.specs.Causes.{IsRunFailure};
 
-use crate::command::{Command, command_of};
+use crate::command::command_of;
 use crate::readings::readings;
 use crate::report::put_fault_line;
 use lfg_io::{Shelf, Sink};
@@ -74,9 +74,7 @@ fn carry_out<F: Shelf, O: Sink>(
 {
     match command_of(words) {
         None => Err(Status::Usage),
-        Some(Command::Readings { grammar, sentences }) => {
-            readings(alloc, grammar, sentences, shelf, out)
-        }
+        Some(command) => readings(alloc, command.grammar, command.sentences, shelf, out),
     }
 }
 

@@ -19,7 +19,7 @@ returns-in-Ok-clause-thin g c files told at = c.in-Ok.ensures.accepted files tol
 pub returns-in-Err-clause-usage : goal.returns-in-Err-clause-usage
 returns-in-Err-clause-usage g c = (
   at_usage (map string_bytes c.args.words.now) (g.F.Shelf.sure c.args.shelf.now) (g.F.Shelf.faults c.args.shelf.now) (g.F.Shelf.faults c.carry_out.new.shelf) (g.F.Shelf.last_failed c.carry_out.new.shelf)
-    (g.O.Sink.faults c.args.out.now) (g.O.Sink.faults c.carry_out.new.out) c.in-Err.status c.in-Err.ensures.failed,
+      (g.O.Sink.faults c.args.out.now) (g.O.Sink.faults c.carry_out.new.out) c.in-Err.status c.in-Err.ensures.failed,
   (λ n. let e = c.in-Err.ensures.usage n in cc),
 )
 
@@ -58,10 +58,10 @@ returns-in-Err-clause-not_thin g c files told = c.in-Err.ensures.refused files t
 
 pub returns-in-Err-clause-thin : goal.returns-in-Err-clause-thin
 returns-in-Err-clause-thin g c files told at = elim at [
-    | inl e ↦ absurd (never_done (map string_bytes c.args.words.now) (g.F.Shelf.sure c.args.shelf.now) (g.F.Shelf.faults c.args.shelf.now) (g.F.Shelf.faults c.carry_out.new.shelf) (g.F.Shelf.last_failed c.carry_out.new.shelf)
+  | inl e ↦ absurd (never_done (map string_bytes c.args.words.now) (g.F.Shelf.sure c.args.shelf.now) (g.F.Shelf.faults c.args.shelf.now) (g.F.Shelf.faults c.carry_out.new.shelf) (g.F.Shelf.last_failed c.carry_out.new.shelf)
       (g.O.Sink.faults c.args.out.now) (g.O.Sink.faults c.carry_out.new.out) c.in-Err.status c.in-Err.ensures.failed e)
-    | inr e ↦ accepted_at files (command_of (map string_bytes c.args.words.now)) c.in-Err.status (c.in-Err.ensures.accepted files told) e
-  ]
+  | inr e ↦ accepted_at files (command_of (map string_bytes c.args.words.now)) c.in-Err.status (c.in-Err.ensures.accepted files told) e
+]
 
 pub returns-in-Err-clause-write_fault : goal.returns-in-Err-clause-write_fault
 returns-in-Err-clause-write_fault g c =
