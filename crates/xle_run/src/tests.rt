@@ -58,7 +58,7 @@ fn file(alloc: Global, name: &str, text: &str) -> Result<(Name, Vec<u8>), AllocE
 
 /// Runs the command over these two files, `p.lfg` and `s.txt`, with an output that fails the listed
 /// calls.
-fn outcome(
+fn outcome_of(
     alloc: Global,
     command: &[&str],
     grammar: &str,
@@ -90,7 +90,7 @@ fn assert_readings(
 ) -> Result<(), AllocError> {
     let alloc = rt.alloc();
     let command = ["readings", "p.lfg", "s.txt"];
-    let found = outcome(alloc, &command, grammar, sentences, Vec::new(alloc))?;
+    let found = outcome_of(alloc, &command, grammar, sentences, Vec::new(alloc))?;
     assert_eq!(rt; found.status, Status::Done);
     assert_eq!(rt; found.out.as_slice(), wanted.as_bytes());
     assert_eq!(rt; found.err.as_slice(), b"".as_slice());
@@ -107,7 +107,7 @@ fn assert_refused(
     line: &str,
 ) -> Result<(), AllocError> {
     let alloc = rt.alloc();
-    let found = outcome(alloc, command, grammar, sentences, Vec::new(alloc))?;
+    let found = outcome_of(alloc, command, grammar, sentences, Vec::new(alloc))?;
     assert_eq!(rt; found.status, status);
     assert_eq!(rt; found.out.as_slice(), b"".as_slice());
     assert_eq!(rt; found.err.as_slice(), line.as_bytes());
@@ -216,7 +216,7 @@ fn leaves_a_prefix_where_the_output_fails(rt: HostRuntime) -> Result<(), Fail> {
     let alloc = rt.alloc();
     let command = ["readings", "p.lfg", "s.txt"];
     let fails = vec![in alloc; (2u64, 5usize)]?;
-    let found = outcome(alloc, &command, TOY, "the man\nthe man walks\n", fails)?;
+    let found = outcome_of(alloc, &command, TOY, "the man\nthe man walks\n", fails)?;
     assert_eq!(rt; found.status, Status::WriteFault);
     assert_eq!(rt; found.out.as_slice(), b"# 1 the man\n\n# 2 t".as_slice());
     assert_eq!(rt; found.err.as_slice(), b"xle: cannot write\n".as_slice());
