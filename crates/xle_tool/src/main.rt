@@ -2,6 +2,9 @@
 //! streams to `run`, and ends with the exit status.
 #![tactic(auto)]
 
+ghost use Rattle.std.specs.Prelude.{◌≡◌};
+ghost use Rattle.lfg_model.specs.Output.{exit_status};
+
 use lfg_io::{DiskShelf, StdSink};
 use lfg_model::Status;
 use std::alloc::AllocError;
@@ -21,6 +24,13 @@ fn words(rt: &(impl Env + AllocGlobal)) -> Result<Vec<String>, AllocError> {
     }
 }
 
+/// The code with which the program ends after this status.
+fn exit_code(status: &Status) -> ExitCode
+    ensures { result.status ≡ exit_status status.now }
+{
+    ExitCode::from(exit_status(status))
+}
+
 fn main(rt: HostRuntime) -> ExitCode {
     let alloc = rt.alloc();
     let mut shelf = DiskShelf::new(alloc, &rt);
@@ -30,5 +40,5 @@ fn main(rt: HostRuntime) -> ExitCode {
         Ok(words) => run(alloc, &words, &mut shelf, &mut out, &mut err),
         Err(_) => Status::Memory,
     };
-    ExitCode::from(exit_status(&status))
+    exit_code(&status)
 }
