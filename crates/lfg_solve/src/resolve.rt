@@ -1,7 +1,7 @@
 ghost use Rattle.std.specs.Prelude.{◌≡◌, ◌+◌, ◌-◌, ◌^◌, ◌<◌, ◌≤◌, ℕ, [], ◌∷◌, ◌++◌, IfOk, OnOk, MatchOption, length, take, drop, min};
 ghost use Rattle.lfg_model.specs.Places.{path_places, val_places, places, schema_places, val_forms, form_count, schema_forms};
 ghost use Rattle.lfg_model.specs.Resolve.{edge_at, string_at, string_taken, node_of, strings_of, walk_of, target_of, equation, resolved, schema_literals};
-ghost use Rattle.lfg_model.specs.Terms.{annotation_of, schema_of, define, member};
+ghost use Rattle.lfg_model.specs.Terms.{annotation_of, schema_of, define, constrain, exists, member};
 ghost use Rattle.lfg_solve.specs.Views.{instance_of};
 
 use lfg_terms::{
@@ -269,18 +269,11 @@ impl Instance<'_> {
                 left,
                 right,
             } => {
-                literals.push(Literal::Check(Check::Same {
-                    negated: *negated,
-                    left: self.walk(alloc, left)?,
-                    right: self.target(alloc, right)?,
-                }))?;
+                literals.push(self.comparison(alloc, *negated, left, right)?)?;
                 Ok(())
             }
             Schema::Exists { negated, left } => {
-                literals.push(Literal::Check(Check::Exists {
-                    negated: *negated,
-                    left: self.walk(alloc, left)?,
-                }))?;
+                literals.push(self.existence(alloc, *negated, left)?)?;
                 Ok(())
             }
             Schema::Member { item, set } => {
@@ -337,6 +330,40 @@ impl Instance<'_> {
         let (own, others) = cut(picks, path_places(&left.path));
         let at = self.node(alloc, left, own)?;
         self.equation(alloc, at, right, others, index)
+    }
+
+    /// The literal of a constraining equation.
+    fn comparison(
+        &self,
+        alloc: Global,
+        negated: bool,
+        left: &Des<Paths>,
+        right: &Val<Paths>,
+    ) -> Result<Literal, AllocError>
+        ensures { IfOk result (λ it. it ∷ []
+            ≡ schema_literals (instance_of self.now) (constrain negated left.now right.now) [] 0) }
+    {
+        Ok(Literal::Check(Check::Same {
+            negated,
+            left: self.walk(alloc, left)?,
+            right: self.target(alloc, right)?,
+        }))
+    }
+
+    /// The literal of an existential constraint.
+    fn existence(
+        &self,
+        alloc: Global,
+        negated: bool,
+        left: &Des<Paths>,
+    ) -> Result<Literal, AllocError>
+        ensures { IfOk result (λ it. it ∷ []
+            ≡ schema_literals (instance_of self.now) (exists negated left.now) [] 0) }
+    {
+        Ok(Literal::Check(Check::Exists {
+            negated,
+            left: self.walk(alloc, left)?,
+        }))
     }
 
     /// The literal of a membership by its picks.
