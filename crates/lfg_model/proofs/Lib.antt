@@ -20,6 +20,7 @@ pub mod ManWalksTree
 pub mod Names
 pub mod Numbered
 pub mod OneTree
+pub mod OutputLaws
 pub mod ReadingLaws
 pub mod RoundLaws
 pub mod Settling

@@ -98,6 +98,16 @@ pub record AreReadings (g : Grammar) (line body : List ℕ) : Type 0 where
 abbrev pub not_accepted : List ℕ → Status
 not_accepted name = BadGrammar name (Entry 0)
 
+-- The files of the command are there and accepted.
+pub data AreAccepted (files : List ℕ → Option (List ℕ)) : Option Command → Type 0 where
+  both_thin : {g s bytes text : List ℕ} {grammar : Grammar} → files g ≡ Some bytes → ThinFile bytes grammar → files s ≡ Some text → ThinSentences text
+      → AreAccepted files (Some (readings g s))
+
+-- The command comes to the file of this name: the files before it are there and accepted.
+pub data ComesTo (files : List ℕ → Option (List ℕ)) : Option Command → List ℕ → Type 0 where
+  to_grammar : {g s : List ℕ} → ComesTo files (Some (readings g s)) g
+  to_sentences : {g s bytes : List ℕ} {grammar : Grammar} → files g ≡ Some bytes → ThinFile bytes grammar → ComesTo files (Some (readings g s)) s
+
 -- The output of a command line over files, which are told by their names: its sections and its
 -- status. First come the words, then the files in their order, each found and then accepted, and
 -- then the sentences. Want of memory and faults of devices do not occur in it.
@@ -144,11 +154,19 @@ pub record CutSections (IsBody : List ℕ → List ℕ → Type 0) (sentences : 
 -- whole and from the first on.
 pub data IsPart (files : List ℕ → Option (List ℕ)) : Option Command → List ℕ → Type 0 where
   nothing : {c : Option Command} → IsPart files c []
-  sections : {g s bytes text part : List ℕ} {grammar : Grammar} → files g ≡ Some bytes → ThinFile bytes grammar → files s ≡ Some text → ThinSentences text
+  whole : {g s bytes text part : List ℕ} {grammar : Grammar} → files g ≡ Some bytes → ThinFile bytes grammar → files s ≡ Some text → ThinSentences text
       → WholeSections (AreReadings grammar) (sentences_of text) part → IsPart files (Some (readings g s)) part
 
 -- What a run has written that ends with a fault of the output: the sections of some sentences,
 -- whole and from the first on, and the beginning of the next one.
 pub data IsCutPart (files : List ℕ → Option (List ℕ)) : Option Command → List ℕ → Type 0 where
-  sections : {g s bytes text part : List ℕ} {grammar : Grammar} → files g ≡ Some bytes → ThinFile bytes grammar → files s ≡ Some text → ThinSentences text
+  cut : {g s bytes text part : List ℕ} {grammar : Grammar} → files g ≡ Some bytes → ThinFile bytes grammar → files s ≡ Some text → ThinSentences text
       → CutSections (AreReadings grammar) (sentences_of text) part → IsCutPart files (Some (readings g s)) part
+
+-- ---- laws
+
+-- Law: a command over files has one output.
+abbrev pub OneOutput : Type 0
+OneOutput =
+    (files : List ℕ → Option (List ℕ)) (c : Option Command) (ss us : List (List ℕ)) (s u : Status)
+    → IsOutput files c ss s → IsOutput files c us u → (ss ≡ us) × (s ≡ u)

@@ -5,6 +5,7 @@ ghost use Rattle.lfg_model.specs.Brackets.{TreeTextIsBracketed};
 ghost use Rattle.lfg_model.specs.Examples.{NegatedWherePlainFails, SetsWithoutPredAreExempt, TargetsOfEqualNodesAreEqual};
 ghost use Rattle.lfg_model.specs.Lists.{SetsOfFactsAreOne};
 ghost use Rattle.lfg_model.specs.ManWalks.{TheManWalks};
+ghost use Rattle.lfg_model.specs.Output.{OneOutput};
 ghost use Rattle.lfg_model.specs.Readings.{ClassesHaveOneName, ReadingsAreOne};
 ghost use Rattle.lfg_model.specs.Rounds.{GrowingRoundsSettle, RoundsGiveEqual};
 ghost use Rattle.lfg_model.specs.Solve.{RoundsGiveSolution};
@@ -92,4 +93,9 @@ pub fn the_man_walks()
 pub fn thin_files_have_one_grammar()
     ensures one { OneThinGrammar }
     ensures thin { ThinFilesAreThin }
+{}
+
+/// A command over files has one output: one list of sections and one status.
+pub fn a_command_has_one_output()
+    ensures { OneOutput }
 {}
