@@ -1,7 +1,9 @@
 pub mod Numbered
+pub mod CycleLaws
 pub mod Dividing
 pub mod Finding
 pub mod MarkLaws
+pub mod Marking
 pub mod Prefixes
 pub mod DerivationLaws
 pub mod FitLaws
