@@ -15,3 +15,4 @@ pub mod Tables
 pub mod ResolveLaws
 pub mod StringLaws
 pub mod ViewLaws
+pub mod Walks

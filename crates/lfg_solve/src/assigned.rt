@@ -1,5 +1,11 @@
-ghost use Rattle.std.specs.Prelude.{IfOk, IfSome};
+ghost use Rattle.std.specs.Prelude.{◌↔◌, IfOk, IfSome, IsTrue};
+ghost use Rattle.lfg_terms.specs.declared.literal.Check.{Check};
+ghost use Rattle.lfg_model.specs.Lists.{In};
+ghost use Rattle.lfg_model.specs.Literals.{checks};
+ghost use Rattle.lfg_model.specs.Solve as model;
+ghost use Rattle.lfg_model.specs.Solve.{Holds};
 ghost use Rattle.lfg_solve.specs.Printable.{ArePrintable};
+ghost use Rattle.lfg_solve.specs.Solves.{Solves};
 
 use crate::derivation::{literals, tree_facts};
 use crate::solution::Solution;
@@ -53,11 +59,13 @@ fn satisfies_all(
     alloc: Global,
     literals: &[Literal],
     solution: &Solution,
-) -> Result<bool, AllocError> {
+) -> Result<bool, AllocError>
+    ensures { Solves literals.now solution.now
+        → IfOk result (λ all. IsTrue all ↔ ((c : Check) → In c (checks literals.now) → Holds (model.solution literals.now) c)) }
+{
     for literal in literals {
-        if let Literal::Check(check) = literal
-            && !solution.satisfies(alloc, check)?
-        {
+        let meets = solution.meets(alloc, literal)?;
+        if !meets {
             return Ok(false);
         }
     }

@@ -7,8 +7,7 @@ use crate::classes::Arc;
 use crate::same::{same_constant, same_name};
 use crate::solution::{Membership, Solution, Value};
 use lfg_model::Constant;
-use lfg_terms::{Check, Form, Name, Target, Walk};
-use std::alloc::{AllocError, Global};
+use lfg_terms::{Form, Name};
 
 /// The attribute whose value is a semantic form.
 pub(crate) const PRED: &str = "PRED";
@@ -99,7 +98,7 @@ fn has_clashing(values: &[Value], arcs: &[Arc], members: &[Membership]) -> bool
 }
 
 /// Whether the arc leaves the class by the attribute.
-fn leads_by(arc: &Arc, class: usize, attribute: &str) -> bool
+pub(crate) fn leads_by(arc: &Arc, class: usize, attribute: &str) -> bool
     ensures { IsTrue result ↔ LeadsBy class attribute.now arc.now }
 {
     if arc.from != class {
@@ -394,119 +393,12 @@ impl Solution {
     ghost use Rattle.lfg_model.specs.Solve.{Clash, IsCoherent, IsComplete, solution};
     ghost use Rattle.lfg_solve.specs.Solves.{Solves};
 
-    /// Where the arc by the attribute leads from the class.
-    pub(crate) fn target(&self, class: usize, attribute: &str) -> Option<usize> {
-        for arc in &self.arcs {
-            if arc.from == class && arc.attribute.text() == attribute {
-                return Some(arc.to);
-            }
-        }
-        None
-    }
-
-    /// Whether the class has the atom as a value.
-    fn has_atom(&self, class: usize, atom: &Name) -> bool {
-        for value in &self.values {
-            if value.class == class
-                && let Constant::Atom(known) = &value.constant
-                && known == atom
-            {
-                return true;
-            }
-        }
-        false
-    }
-
-    /// Whether the two classes have one atom.
-    fn share_atom(&self, one: usize, other: usize) -> bool {
-        for value in &self.values {
-            if value.class == one
-                && let Constant::Atom(atom) = &value.constant
-                && self.has_atom(other, atom)
-            {
-                return true;
-            }
-        }
-        false
-    }
-
     /// Whether some class has two values, or a value together with an arc or a member
     /// (uniqueness, Kaplan and Bresnan 1982).
     pub fn has_clash(&self) -> bool
         ensures { (ls : List Literal) → Solves ls self.now → (IsTrue result ↔ Clash (solution ls)) }
     {
         has_clashing(&self.values, &self.arcs, &self.members)
-    }
-
-    /// The class to which the path leads from the class.
-    fn leads(&self, from: usize, path: &[Name]) -> Option<usize> {
-        let mut class = from;
-        for attribute in path {
-            class = self.target(class, attribute.text())?;
-        }
-        Some(class)
-    }
-
-    /// The classes to which the strings of the walk lead.
-    fn reached(&self, alloc: Global, walk: &Walk) -> Result<Vec<usize>, AllocError> {
-        let mut classes = Vec::new(alloc);
-        if let Some(start) = self.class_of(&walk.start) {
-            for path in walk.paths.list() {
-                if let Some(class) = self.leads(start, path.list()) {
-                    classes.push(class)?;
-                }
-            }
-        }
-        Ok(classes)
-    }
-
-    /// Whether strings of the two walks lead to one class, or to classes with one atom.
-    fn agree(&self, alloc: Global, left: &Walk, right: &Walk) -> Result<bool, AllocError> {
-        let left = self.reached(alloc, left)?;
-        let right = self.reached(alloc, right)?;
-        for one in &left {
-            for other in &right {
-                if one == other || self.share_atom(*one, *other) {
-                    return Ok(true);
-                }
-            }
-        }
-        Ok(false)
-    }
-
-    /// Whether some string of the walk leads to a class with the atom.
-    fn reaches_atom(&self, alloc: Global, walk: &Walk, atom: &Name) -> Result<bool, AllocError> {
-        for class in &self.reached(alloc, walk)? {
-            if self.has_atom(*class, atom) {
-                return Ok(true);
-            }
-        }
-        Ok(false)
-    }
-
-    /// Whether the check holds. A negated check holds exactly where the plain one does not.
-    ///
-    /// # Errors
-    ///
-    /// Only for want of memory.
-    pub fn satisfies(&self, alloc: Global, check: &Check) -> Result<bool, AllocError> {
-        match check {
-            Check::Exists { negated, left } => {
-                let holds = !self.reached(alloc, left)?.is_empty();
-                Ok(holds != *negated)
-            }
-            Check::Same {
-                negated,
-                left,
-                right,
-            } => {
-                let holds = match right {
-                    Target::Atom(atom) => self.reaches_atom(alloc, left, atom)?,
-                    Target::Walk(walk) => self.agree(alloc, left, walk)?,
-                };
-                Ok(holds != *negated)
-            }
-        }
     }
 
     /// Whether each function that a class's form names is there, and those inside the form's

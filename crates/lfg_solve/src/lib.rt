@@ -3,6 +3,7 @@
 #![tactic(auto)]
 
 mod assigned;
+mod checks;
 mod classes;
 mod conditions;
 mod cycles;

@@ -103,7 +103,7 @@ fn class_in(nodes: &[Node], classes: &Classes, node: &Node) -> Option<usize>
 }
 
 /// Appends the item, if there is one.
-fn push_some<T: Drop>(items: &mut Vec<T>, item: Option<T>) -> Result<(), AllocError>
+pub(crate) fn push_some<T: Drop>(items: &mut Vec<T>, item: Option<T>) -> Result<(), AllocError>
     ensures { OnOk result (items.new.items ≡ items.old.items ++ option_to_list item) }
 {
     if let Some(item) = item {
