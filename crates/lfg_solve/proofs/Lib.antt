@@ -1,8 +1,12 @@
 pub mod Numbered
 pub mod Dividing
+pub mod EdgeNodes
+pub mod FactLists
+pub mod FactLaws
 pub mod Finding
 pub mod MarkLaws
 pub mod Prefixes
+pub mod PrintableLaws
 pub mod DerivationLaws
 pub mod FitLaws
 pub mod PartLaws

@@ -1,4 +1,6 @@
 ghost use Rattle.std.specs.Prelude.{IfOk, IfSome};
+ghost use Rattle.lfg_model.specs.Terms.{tree_of};
+ghost use Rattle.lfg_solve.specs.Fits.{Fits};
 ghost use Rattle.lfg_solve.specs.Printable.{ArePrintable};
 
 use crate::derivation::{literals, tree_facts};
@@ -19,7 +21,8 @@ pub fn assigned_pair(
     tokens: &[TokenForms],
     derivation: &Derivation,
 ) -> Result<Option<Pair>, AllocError>
-    ensures printable { IfOk result (λ found. IfSome found (λ pair. ArePrintable pair.facts)) }
+    ensures printable { Fits grammar.now (tree_of derivation.now)
+        → IfOk result (λ found. IfSome found (λ pair. ArePrintable pair.facts)) }
 {
     let literals = literals(alloc, grammar, derivation)?;
     let solution = Solution::new(alloc, &literals)?;
