@@ -1,10 +1,14 @@
 pub mod Numbered
 pub mod CycleLaws
 pub mod Dividing
+pub mod EdgeNodes
+pub mod FactLists
+pub mod FactLaws
 pub mod Finding
 pub mod MarkLaws
 pub mod Marking
 pub mod Prefixes
+pub mod PrintableLaws
 pub mod DerivationLaws
 pub mod FitLaws
 pub mod PartLaws
@@ -16,3 +20,4 @@ pub mod ResolveLaws
 pub mod StringLaws
 pub mod ViewLaws
 pub mod Walks
+pub mod WellFormed

@@ -180,7 +180,7 @@ module _ (ls : List Literal) (s : Solution) (y : Solves ls s) where
       }
 
   -- the form of a node, in numbers
-  form_numbers : (x : Node) (form : Form) (h : HasForm (solution ls) x form)
+  pub form_numbers : (x : Node) (form : Form) (h : HasForm (solution ls) x form)
       → (i : ℕ) × (j : ℕ) × ClassOf s x i × In (arc_of i pred j) s.arcs.items × In (record { class = j; constant = constant.Form form h.site h.index }) s.values.items
   form_numbers x form h =
       let r = class_of_arc x pred h.at h.by_pred in

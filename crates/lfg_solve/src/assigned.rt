@@ -1,9 +1,13 @@
-ghost use Rattle.std.specs.Prelude.{◌↔◌, IfOk, IfSome, IsTrue};
-ghost use Rattle.lfg_terms.specs.declared.literal.Check.{Check};
+ghost use Rattle.std.specs.Prelude.{◌↔◌, IfNone, IfOk, IfSome, IsTrue};
 ghost use Rattle.lfg_model.specs.Lists.{In};
 ghost use Rattle.lfg_model.specs.Literals.{checks};
+ghost use Rattle.lfg_model.specs.Readings.{IsPairOf, solution_of};
 ghost use Rattle.lfg_model.specs.Solve as model;
-ghost use Rattle.lfg_model.specs.Solve.{Holds};
+ghost use Rattle.lfg_model.specs.Solve.{Holds, IsWellFormed};
+ghost use Rattle.lfg_model.specs.Terms.{tree_of};
+ghost use Rattle.lfg_model.specs.Trees.{literals};
+ghost use Rattle.lfg_terms.specs.declared.literal.Check.{Check};
+ghost use Rattle.lfg_solve.specs.Fits.{Fits};
 ghost use Rattle.lfg_solve.specs.Printable.{ArePrintable};
 ghost use Rattle.lfg_solve.specs.Solves.{Solves};
 
@@ -14,7 +18,8 @@ use lfg_terms::{Derivation, Grammar, List, Literal, TokenForms};
 use std::alloc::{AllocError, Global};
 
 /// The pair of tree and f-structure of the derivation, or `None` where its equations clash, its
-/// f-structure is cyclic, incomplete or incoherent, or one of its constraints is false.
+/// f-structure is cyclic, incomplete or incoherent, or one of its constraints is false. Nothing is
+/// said of a derivation whose tokens, or whose annotations' forms, 32 bits cannot count.
 ///
 /// # Errors
 ///
@@ -25,7 +30,12 @@ pub fn assigned_pair(
     tokens: &[TokenForms],
     derivation: &Derivation,
 ) -> Result<Option<Pair>, AllocError>
-    ensures printable { IfOk result (λ found. IfSome found (λ pair. ArePrintable pair.facts)) }
+    ensures well_formed { Fits grammar.now (tree_of derivation.now) → IfOk result (λ found. IfSome found (λ pair.
+        IsWellFormed (solution_of grammar.now (tree_of derivation.now)) grammar.now.governable (checks (literals grammar.now (tree_of derivation.now) 0)))) }
+    ensures pair { Fits grammar.now (tree_of derivation.now) → IfOk result (λ found. IfSome found (IsPairOf grammar.now tokens.now (tree_of derivation.now))) }
+    ensures none { Fits grammar.now (tree_of derivation.now) → IfOk result (λ found. IfNone found (
+        ¬ IsWellFormed (solution_of grammar.now (tree_of derivation.now)) grammar.now.governable (checks (literals grammar.now (tree_of derivation.now) 0)))) }
+    ensures printable { Fits grammar.now (tree_of derivation.now) → IfOk result (λ found. IfSome found (λ pair. ArePrintable pair.facts)) }
 {
     let literals = literals(alloc, grammar, derivation)?;
     let solution = Solution::new(alloc, &literals)?;
@@ -44,14 +54,23 @@ fn is_well_formed(
     grammar: &Grammar,
     literals: &[Literal],
     solution: &Solution,
-) -> Result<bool, AllocError> {
-    Ok(
-        !solution.has_clash()
-            && solution.is_complete()
-            && solution.is_coherent(grammar.governable.list())
-            && !solution.has_cycle(alloc)?
-            && satisfies_all(alloc, literals, solution)?,
-    )
+) -> Result<bool, AllocError>
+    ensures { Solves literals.now solution.now → IfOk result (λ met.
+        IsTrue met ↔ IsWellFormed (model.solution literals.now) grammar.now.governable (checks literals.now)) }
+{
+    if solution.has_clash() {
+        return Ok(false);
+    }
+    if !solution.is_complete() {
+        return Ok(false);
+    }
+    if !solution.is_coherent(grammar.governable.list()) {
+        return Ok(false);
+    }
+    if solution.has_cycle(alloc)? {
+        return Ok(false);
+    }
+    satisfies_all(alloc, literals, solution)
 }
 
 /// Whether the solution satisfies all checks among the literals.
