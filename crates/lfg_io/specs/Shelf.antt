@@ -8,6 +8,10 @@ use Rattle.std.specs.FinMap as finite
 abbrev pub Files : Type 0
 Files = finite.FinMap (slice_cmp nat_cmp) (List ℕ)
 
+-- the bytes of the file with this name
+abbrev pub file_in : Files → List ℕ → Option (List ℕ)
+file_in files name = finite.get files name
+
 -- where the files are told, one has the name
 abbrev pub HasFile : Option Files → List ℕ → Type 0
 HasFile None name = Unit {0}

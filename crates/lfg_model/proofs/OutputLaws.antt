@@ -7,7 +7,7 @@ use Rattle.lfg_model.specs.declared.status.Status.{Status}
 use Rattle.lfg_model.specs.declared.status.Status.TheVariants.{Done, Usage, ReadFault, BadGrammar, WriteFault, Memory}
 use Rattle.lfg_model.specs.PairTexts.{pair_text}
 use Rattle.lfg_model.specs.ThinText.{ThinFile, ThinSentences, words, token_of}
-use Rattle.lfg_model.specs.Output.{Command, readings, section, AreSections, none, more, AreReadings, IsOutput, usage, no_grammar, bad_grammar, no_sentences, bad_sentences, all_read, sentences_of, OneOutput}
+use Rattle.lfg_model.specs.Output.{Command, readings, section, AreSections, none, more, AreReadings, IsOutput, usage, no_grammar, bad_grammar, no_sentences, bad_sentences, all_read, sentences_of, AreAccepted, both_thin, IfBadGrammar, OneOutput}
 use Rattle.lfg_model.proofs.OneTree.{same_some}
 use Rattle.lfg_model.proofs.ReadingLaws.{readings_are_one}
 use Rattle.lfg_model.proofs.ThinLaws.{one_thin_grammar}
@@ -51,6 +51,26 @@ module _ (files : List ℕ → Option (List ℕ)) where
       → AreSections (AreReadings h) 1 (sentences_of b) us → ss ≡ us
   same_sections g h a b ss us e f p q =
       AreSections-one h 1 (sentences_of b) ss us (subst (λ (x : Grammar × List ℕ). AreSections (AreReadings x.0) 1 (sentences_of x.1) ss) (λ i. (e i, f i)) p) q
+
+  -- the sections of the output are those of the sentences
+  pub sections_of_output : (g s a t : List ℕ) (grammar : Grammar) (ss : List (List ℕ)) (st : Status) → files g ≡ Some a → ThinFile a grammar → files s ≡ Some t
+      → IsOutput files (Some (readings g s)) ss st → st ≡ Done → AreSections (AreReadings grammar) 1 (sentences_of t) ss
+  sections_of_output g s a t grammar ss st e thin f (no_grammar h) d = cc
+  sections_of_output g s a t grammar ss st e thin f (bad_grammar h n) d = cc
+  sections_of_output g s a t grammar ss st e thin f (no_sentences h u n) d = cc
+  sections_of_output g s a t grammar ss st e thin f (bad_sentences h u n v) d = cc
+  sections_of_output g s a t grammar ss st e thin f (all_read {bytes = b} {text = text} {grammar = other} h u n v are) d =
+      let same : other ≡ grammar = same_grammar g b a other grammar h u e thin in
+      let one : text ≡ t = same_bytes s text t n f in
+      subst (λ (x : Grammar × List ℕ). AreSections (AreReadings x.0) 1 (sentences_of x.1) ss) (λ i. (same i, one i)) are
+
+  -- no file of an accepted command is refused
+  pub accepted_not_bad : (c : Option Command) (ss : List (List ℕ)) (st : Status) → AreAccepted files c → IsOutput files c ss st → IfBadGrammar st (λ name fault. ⊥)
+  accepted_not_bad c ss st (both_thin e t f u) (no_grammar h) = tt
+  accepted_not_bad c ss st (both_thin e t f u) (bad_grammar h n) = thin_not _ _ _ _ h n e t
+  accepted_not_bad c ss st (both_thin e t f u) (no_sentences h v n) = tt
+  accepted_not_bad c ss st (both_thin e t f u) (bad_sentences h v n m) = text_not _ _ _ n m f u
+  accepted_not_bad c ss st (both_thin e t f u) (all_read h v n w are) = tt
 
 pub one_output : OneOutput
 one_output files c ss us s u usage usage = (refl, refl)

@@ -1,7 +1,7 @@
 -- From what is known of the files to what is known of the command over them.
 use Rattle.std.proofs.Common.{◌≡◌, ℕ, List, [], ◌∷◌, Some, None, Option, sym, subst, inl, inr}
 use Rattle.std.specs.Prelude.{Result, Ok, Err, IfErr, OnOk, OnErr, ◌⊎◌}
-use Rattle.lfg_io.specs.Shelf.{Files}
+use Rattle.lfg_io.specs.Shelf.{Files, file_in}
 use Rattle.lfg_terms.specs.declared.grammar.Grammar.{Grammar}
 use Rattle.lfg_model.specs.declared.status.GrammarFault.{GrammarFault}
 use Rattle.lfg_model.specs.declared.status.GrammarFault.TheVariants.{Entry}
@@ -11,7 +11,7 @@ use Rattle.lfg_model.specs.Lists.{In, here, later}
 use Rattle.lfg_model.specs.Output.{Command, command_of, files_of, readings, IfBadGrammar, IsOutput, bad_grammar, bad_sentences}
 use Rattle.xle_run.specs.Causes.{IsRefused, IsUnwritten, IsFailure, IsRunFailure}
 use Rattle.xle_run.proofs.CauseLaws.{unwritten_sections, failed_command}
-use Rattle.xle_run.specs.Loads.{file_in, GivesGrammar, GivesNoGrammar, GivesText, GivesNoText, AcceptsText, Accepts, AreAccepted}
+use Rattle.xle_run.specs.Loads.{GivesGrammar, GivesNoGrammar, GivesNoText}
 
 -- a failure over some files is one over more
 pub wider_failure : (xs ys sure : List (List ℕ)) (before now : ℕ) (last : List ℕ) (ob on : ℕ) (s : Status) → ((n : List ℕ) → In n xs → In n ys)
@@ -58,46 +58,6 @@ module _ (files : Files) (g s : List ℕ) (sure : List (List ℕ)) (before now :
   no_text_output grammar WriteFault gives h p = tt
   no_text_output grammar Memory gives h p = tt
 
--- both files are accepted
-pub both_accepted : (T : Type 0) (files : Files) (g s : List ℕ) (grammar : Grammar) (r : Result T Status) → GivesGrammar files g grammar
-    → AcceptsText files s r → Accepts files (Some (readings g s)) r
-both_accepted T files g s grammar (Ok v) gives h = (grammar, h.0, gives, h.1)
-both_accepted T files g s grammar (Err WriteFault) gives h = (grammar, h.0, gives, h.1)
-both_accepted T files g s grammar (Err Done) gives h = tt
-both_accepted T files g s grammar (Err Usage) gives h = tt
-both_accepted T files g s grammar (Err (ReadFault name)) gives h = tt
-both_accepted T files g s grammar (Err (BadGrammar name fault)) gives h = tt
-both_accepted T files g s grammar (Err Memory) gives h = tt
-
--- a file that was not taken says nothing of what is accepted
-pub refused_accepts : (T : Type 0) (files : Files) (c : Option Command) (file : List ℕ) (sure : List (List ℕ)) (before now : ℕ) (last : List ℕ) (st : Status)
-    → IsRefused file sure before now last st → Accepts {T = T} files c (Err st)
-refused_accepts T files c file sure before now last (ReadFault name) h = tt
-refused_accepts T files c file sure before now last (BadGrammar name fault) h = tt
-refused_accepts T files c file sure before now last Memory h = tt
-refused_accepts T files c file sure before now last Done h = tt
-refused_accepts T files c file sure before now last Usage h = tt
-refused_accepts T files c file sure before now last WriteFault h = absurd h
-
-pub refused_accepts_text : (T : Type 0) (files : Files) (s file : List ℕ) (sure : List (List ℕ)) (before now : ℕ) (last : List ℕ) (st : Status)
-    → IsRefused file sure before now last st → AcceptsText {T = T} files s (Err st)
-refused_accepts_text T files s file sure before now last (ReadFault name) h = tt
-refused_accepts_text T files s file sure before now last (BadGrammar name fault) h = tt
-refused_accepts_text T files s file sure before now last Memory h = tt
-refused_accepts_text T files s file sure before now last Done h = tt
-refused_accepts_text T files s file sure before now last Usage h = tt
-refused_accepts_text T files s file sure before now last WriteFault h = absurd h
-
--- once the text is accepted, all answers say so
-pub accepts_text : (T : Type 0) (files : Files) (s text : List ℕ) (r : Result T Status) → GivesText files s text → AcceptsText files s r
-accepts_text T files s text (Ok v) h = (text, h)
-accepts_text T files s text (Err WriteFault) h = (text, h)
-accepts_text T files s text (Err Done) h = tt
-accepts_text T files s text (Err Usage) h = tt
-accepts_text T files s text (Err (ReadFault name)) h = tt
-accepts_text T files s text (Err (BadGrammar name fault)) h = tt
-accepts_text T files s text (Err Memory) h = tt
-
 module _ (T : Type 0) where
   pub later_failures : (g s : List ℕ) (sure sure' : List (List ℕ)) (before before' now : ℕ) (last : List ℕ) (ob on : ℕ) (r : Result T Status) → sure' ≡ sure → before' ≡ before
       → IfErr r (IsFailure (s ∷ []) sure' before' now last ob on) → IfErr r (IsFailure (g ∷ s ∷ []) sure before now last ob on)
@@ -137,7 +97,3 @@ never_bad P Memory h = tt
 pub told_by : (T E A B C : Type 0) (r : Result T E) → OnOk r A → OnErr r B → OnErr r C → A ⊎ (B × C)
 told_by T E A B C (Ok v) a b c = inl a
 told_by T E A B C (Err e) a b c = inr (b, c)
-
--- at these two answers the files are accepted
-pub accepted_at : (files : Files) (c : Option Command) (st : Status) → Accepts {T = Unit {0}} files c (Err st) → st ≡ WriteFault → AreAccepted files c
-accepted_at files c st h e = subst (λ s. Accepts {T = Unit {0}} files c (Err s)) e h

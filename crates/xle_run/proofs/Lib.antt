@@ -16,3 +16,7 @@ pub mod SearchWords
 pub mod LoadLaws
 pub mod CommandLaws
 pub mod PairTextLaws
+pub mod ReadingLaws
+pub mod SectionLaws
+pub mod WriteLaws
+pub mod RunLaws

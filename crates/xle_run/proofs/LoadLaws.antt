@@ -1,13 +1,13 @@
 -- A file that is loaded up to a limit is thin just where the whole file is.
 use Rattle.std.proofs.Common.{◌≡◌, ℕ, zero, suc, ◌≤◌, ◌<◌, List, [], ◌∷◌, length, take, min, refl, sym, subst, ap, ◌∙◌, arith, Some}
 use Rattle.std.proofs.lemmas.List.{length-take}
-use Rattle.lfg_io.specs.Shelf.{Files}
+use Rattle.lfg_io.specs.Shelf.{Files, file_in}
 use Rattle.lfg_terms.specs.declared.grammar.Grammar.{Grammar}
 use Rattle.lfg_model.specs.declared.status.Status.{Status}
 use Rattle.lfg_model.specs.declared.status.Status.TheVariants.{Done, Usage, ReadFault, BadGrammar, WriteFault, Memory}
 use Rattle.lfg_model.specs.Output.{IfBadGrammar}
 use Rattle.lfg_model.specs.ThinText.{ThinFile, ThinSentences}
-use Rattle.xle_run.specs.Loads.{file_in, GivesGrammar, GivesNoGrammar, GivesText, GivesNoText}
+use Rattle.xle_run.specs.Loads.{GivesGrammar, GivesNoGrammar, GivesText, GivesNoText}
 
 take_short : (n : ℕ) (xs : List ℕ) → length xs ≤ n → take n xs ≡ xs
 take_short zero [] l = refl

@@ -7,3 +7,4 @@ pub mod Heads
 pub mod Reading
 pub mod Search
 pub mod Loads
+pub mod Writes

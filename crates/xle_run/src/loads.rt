@@ -1,11 +1,11 @@
 ghost use Rattle.std.specs.Prelude.{◌≡◌, ℕ, List, Some, OnOk, IfOk, IfErr, take};
 ghost use Rattle.std.specs.List.{Contains};
 ghost use Rattle.lfg_io.specs.Counts.{Rose};
-ghost use Rattle.lfg_io.specs.Shelf.{Files};
+ghost use Rattle.lfg_io.specs.Shelf.{Files, file_in};
 ghost use Rattle.lfg_model.specs.Output.{IfBadGrammar};
 ghost use Rattle.lfg_model.specs.Thin.{IsThinGrammar};
 ghost use Rattle.xle_run.specs.Causes.{IsRefused};
-ghost use Rattle.xle_run.specs.Loads.{file_in, GivesGrammar, GivesNoGrammar};
+ghost use Rattle.xle_run.specs.Loads.{GivesGrammar, GivesNoGrammar};
 
 use crate::thin::thin_grammar;
 use lfg_io::{Shelf, ShelfFault};

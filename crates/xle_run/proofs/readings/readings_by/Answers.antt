@@ -1,10 +1,14 @@
-use Rattle.std.proofs.Common.{◌≡◌, ℕ, ◌<◌, List, [], ◌∷◌, Some, ◌∙◌, lit<}
+use Rattle.std.proofs.Common.{◌≡◌, ℕ, ◌<◌, ◌≤◌, List, [], ◌∷◌, Some, length, refl, subst, ◌∙◌, lit<}
+use Rattle.std.specs.Prelude.{◌≢◌, IfErr}
 use Rattle.lfg_model.specs.Lists.{here}
-use Rattle.lfg_model.specs.Output.{readings, IsOutput}
-use Rattle.xle_run.specs.Loads.{file_in}
+use Rattle.lfg_model.specs.Output.{readings, joined, sentences_of, AreAccepted, AreReadings, AreSections, ComesTo, to_sentences, IsOutput}
+use Rattle.lfg_io.specs.Shelf.{file_in}
 use Rattle.xle_run.proofs.CauseLaws.{refused_file}
-use Rattle.xle_run.proofs.CommandLaws.{no_text_output, refused_accepts_text, accepts_text, unwritten_all, unwritten_not_bad, never_bad}
+use Rattle.xle_run.proofs.CommandLaws.{no_text_output, unwritten_all, unwritten_not_bad, never_bad}
 use Rattle.xle_run.proofs.LoadLaws.{gives_text, gives_no_text, at_bad_grammar}
+use Rattle.lfg_model.specs.declared.status.Status.TheVariants.{WriteFault}
+use Rattle.xle_run.specs.Writes.{PutsSections}
+use Rattle.xle_run.proofs.WriteLaws.{puts_readings, room_readings, both_accepted, taken, at_refused, refused_puts, refused_taken, refused_not_write, refused_reached, unwritten_refused, unwritten_read}
 use Rattle.xle_run.proofs.readings.readings_by.Goals as goal
 
 pub returns-in-Err-clause-failed : goal.returns-in-Err-clause-failed
@@ -14,11 +18,6 @@ returns-in-Err-clause-failed g c =
 
 pub returns-in-Err-clause-refused : goal.returns-in-Err-clause-refused
 returns-in-Err-clause-refused g c files name told gives = never_bad _ c.in-Err.status c.in-Err.ensures.not_bad
-
-pub returns-in-Err-clause-accepted : goal.returns-in-Err-clause-accepted
-returns-in-Err-clause-accepted g c files told =
-    refused_accepts_text (Unit {0}) files c.args.sentences.now c.args.sentences.now (g.F.Shelf.sure c.args.shelf.now) (g.F.Shelf.faults c.args.shelf.now)
-    (g.F.Shelf.faults c.load_file.new.shelf) (g.F.Shelf.last_failed c.load_file.new.shelf) c.in-Err.status c.in-Err.ensures.refused
 
 pub returns-clause-failed : goal.returns-clause-failed
 returns-clause-failed g c =
@@ -32,23 +31,93 @@ returns-clause-refused g c files name told gives =
     c.args.grammar.now c.not_thin.result gives (c.not_thin.ensures _ _ _ _)
     (at_bad_grammar c.not_thin.result (gives_no_text 4194305 files c.args.sentences.now file.0 c.deref.result.now file.1 (c.deref.ensures.value ∙ file.2) (lit< tt) c.in-None.ensures))
 
-pub returns-clause-accepted : goal.returns-clause-accepted
-returns-clause-accepted g c files told =
-    refused_accepts_text (Unit {0}) files c.args.sentences.now c.args.sentences.now (g.F.Shelf.sure c.args.shelf.now) (g.F.Shelf.faults c.args.shelf.now)
-    (g.F.Shelf.faults c.load_file.new.shelf) (g.F.Shelf.last_failed c.load_file.new.shelf) c.not_thin.result (c.not_thin.ensures _ _ _ _)
-
 pub returns-in-Some-clause-failed : goal.returns-in-Some-clause-failed
 returns-in-Some-clause-failed g c =
     unwritten_all (Unit {0}) (c.args.sentences.now ∷ []) (g.F.Shelf.sure c.args.shelf.now) (g.F.Shelf.faults c.args.shelf.now) (g.F.Shelf.faults c.load_file.new.shelf) (g.F.Shelf.last_failed c.load_file.new.shelf)
-    (g.O.Sink.faults c.args.out.now) (g.O.Sink.faults c.write_sections.new.out) c.write_sections.result c.write_sections.ensures.unwritten
+    (g.O.Sink.faults c.args.out.now) (g.O.Sink.faults c.write_text.new.out) c.write_text.result c.write_text.ensures.unwritten
 
 pub returns-in-Some-clause-refused : goal.returns-in-Some-clause-refused
 returns-in-Some-clause-refused g c files name told gives =
     unwritten_not_bad (Unit {0}) (λ st other fault. IsOutput (file_in files) (Some (readings name c.args.sentences.now)) [] st)
-    (g.O.Sink.faults c.args.out.now) (g.O.Sink.faults c.write_sections.new.out) c.write_sections.result c.write_sections.ensures.unwritten
+    (g.O.Sink.faults c.args.out.now) (g.O.Sink.faults c.write_text.new.out) c.write_text.result c.write_text.ensures.unwritten
+
+pub returns-in-Err-clause-untouched : goal.returns-in-Err-clause-untouched
+returns-in-Err-clause-untouched g c = at_refused _ c.in-Err.status refl
+
+pub returns-in-Err-clause-reached : goal.returns-in-Err-clause-reached
+returns-in-Err-clause-reached g c files name told gives =
+    refused_reached (Unit {0}) c.args.sentences.now (g.F.Shelf.sure c.args.shelf.now) (g.F.Shelf.faults c.args.shelf.now)
+    (g.F.Shelf.faults c.load_file.new.shelf) (g.F.Shelf.last_failed c.load_file.new.shelf)
+    (ComesTo (file_in files) (Some (readings name c.args.sentences.now))) c.in-Err.status c.in-Err.ensures.refused (to_sentences gives.there gives.thin)
+
+pub returns-in-Err-clause-accepted : goal.returns-in-Err-clause-accepted
+returns-in-Err-clause-accepted g c files name told gives =
+    refused_taken (Unit {0}) c.args.sentences.now (g.F.Shelf.sure c.args.shelf.now) (g.F.Shelf.faults c.args.shelf.now)
+    (g.F.Shelf.faults c.load_file.new.shelf) (g.F.Shelf.last_failed c.load_file.new.shelf)
+    (AreAccepted (file_in files) (Some (readings name c.args.sentences.now))) c.in-Err.status c.in-Err.ensures.refused
+
+pub returns-in-Err-clause-written : goal.returns-in-Err-clause-written
+returns-in-Err-clause-written g c files name before told e gives =
+    refused_puts (Unit {0}) c.args.sentences.now (g.F.Shelf.sure c.args.shelf.now) (g.F.Shelf.faults c.args.shelf.now)
+    (g.F.Shelf.faults c.load_file.new.shelf) (g.F.Shelf.last_failed c.load_file.new.shelf) files (Some (readings name c.args.sentences.now)) before _ c.in-Err.status c.in-Err.ensures.refused e
+
+pub returns-in-Err-clause-room : goal.returns-in-Err-clause-room
+returns-in-Err-clause-room g c files name sections told gives out few =
+    refused_not_write (Unit {0}) c.args.sentences.now (g.F.Shelf.sure c.args.shelf.now) (g.F.Shelf.faults c.args.shelf.now)
+    (g.F.Shelf.faults c.load_file.new.shelf) (g.F.Shelf.last_failed c.load_file.new.shelf) c.in-Err.status c.in-Err.ensures.refused
+
+pub returns-clause-untouched : goal.returns-clause-untouched
+returns-clause-untouched g c = at_refused _ c.not_thin.result refl
+
+pub returns-clause-reached : goal.returns-clause-reached
+returns-clause-reached g c files name told gives =
+    refused_reached (Unit {0}) c.args.sentences.now (g.F.Shelf.sure c.args.shelf.now) (g.F.Shelf.faults c.args.shelf.now)
+    (g.F.Shelf.faults c.load_file.new.shelf) (g.F.Shelf.last_failed c.load_file.new.shelf)
+    (ComesTo (file_in files) (Some (readings name c.args.sentences.now))) c.not_thin.result (c.not_thin.ensures _ _ _ _) (to_sentences gives.there gives.thin)
+
+pub returns-clause-accepted : goal.returns-clause-accepted
+returns-clause-accepted g c files name told gives =
+    refused_taken (Unit {0}) c.args.sentences.now (g.F.Shelf.sure c.args.shelf.now) (g.F.Shelf.faults c.args.shelf.now)
+    (g.F.Shelf.faults c.load_file.new.shelf) (g.F.Shelf.last_failed c.load_file.new.shelf)
+    (AreAccepted (file_in files) (Some (readings name c.args.sentences.now))) c.not_thin.result (c.not_thin.ensures _ _ _ _)
+
+pub returns-clause-written : goal.returns-clause-written
+returns-clause-written g c files name before told e gives =
+    refused_puts (Unit {0}) c.args.sentences.now (g.F.Shelf.sure c.args.shelf.now) (g.F.Shelf.faults c.args.shelf.now)
+    (g.F.Shelf.faults c.load_file.new.shelf) (g.F.Shelf.last_failed c.load_file.new.shelf) files (Some (readings name c.args.sentences.now)) before _ c.not_thin.result (c.not_thin.ensures _ _ _ _) e
+
+pub returns-clause-room : goal.returns-clause-room
+returns-clause-room g c files name sections told gives out few =
+    refused_not_write (Unit {0}) c.args.sentences.now (g.F.Shelf.sure c.args.shelf.now) (g.F.Shelf.faults c.args.shelf.now)
+    (g.F.Shelf.faults c.load_file.new.shelf) (g.F.Shelf.last_failed c.load_file.new.shelf) c.not_thin.result (c.not_thin.ensures _ _ _ _)
+
+pub returns-in-Some-clause-untouched : goal.returns-in-Some-clause-untouched
+returns-in-Some-clause-untouched g c = unwritten_refused (Unit {0}) _ (g.O.Sink.faults c.args.out.now) (g.O.Sink.faults c.write_text.new.out) c.write_text.result c.write_text.ensures.unwritten
+
+pub returns-in-Some-clause-reached : goal.returns-in-Some-clause-reached
+returns-in-Some-clause-reached g c files name told gives =
+    unwritten_read (Unit {0}) (ComesTo (file_in files) (Some (readings name c.args.sentences.now))) (g.O.Sink.faults c.args.out.now) (g.O.Sink.faults c.write_text.new.out) c.write_text.result c.write_text.ensures.unwritten
 
 pub returns-in-Some-clause-accepted : goal.returns-in-Some-clause-accepted
-returns-in-Some-clause-accepted g c files told =
+returns-in-Some-clause-accepted g c files name told gives =
     let file = c.in-Ok.ensures.loaded files told in
-    accepts_text (Unit {0}) files c.args.sentences.now c.deref.result.now c.write_sections.result
-    (gives_text 4194305 files c.args.sentences.now file.0 c.deref.result.now file.1 (c.deref.ensures.value ∙ file.2) (lit< tt) c.in-Some.ensures.1)
+    let given = gives_text 4194305 files c.args.sentences.now file.0 c.deref.result.now file.1 (c.deref.ensures.value ∙ file.2) (lit< tt) c.in-Some.ensures.1 in
+    let same : c.in-Some.text.now ≡ c.deref.result.now = c.in-Some.ensures.0 in
+    taken (Unit {0}) _ c.write_text.result (both_accepted (Unit {0}) files name c.args.sentences.now c.deref.result.now c.args.grammar.now gives given)
+
+pub returns-in-Some-clause-written : goal.returns-in-Some-clause-written
+returns-in-Some-clause-written g c files name before told e gives =
+    let file = c.in-Ok.ensures.loaded files told in
+    let given = gives_text 4194305 files c.args.sentences.now file.0 c.deref.result.now file.1 (c.deref.ensures.value ∙ file.2) (lit< tt) c.in-Some.ensures.1 in
+    let same : c.in-Some.text.now ≡ c.deref.result.now = c.in-Some.ensures.0 in
+    puts_readings (Unit {0}) files name c.args.sentences.now c.deref.result.now c.args.grammar.now gives given before (g.O.Sink.written c.write_text.new.out) c.write_text.result
+    (subst (λ (bs : List ℕ). PutsSections c.args.grammar.now (sentences_of bs) before (g.O.Sink.written c.write_text.new.out) c.write_text.result) same (c.write_text.ensures.written before e))
+
+pub returns-in-Some-clause-room : goal.returns-in-Some-clause-room
+returns-in-Some-clause-room g c files name sections told gives out few =
+    let file = c.in-Ok.ensures.loaded files told in
+    let given = gives_text 4194305 files c.args.sentences.now file.0 c.deref.result.now file.1 (c.deref.ensures.value ∙ file.2) (lit< tt) c.in-Some.ensures.1 in
+    let same : c.in-Some.text.now ≡ c.deref.result.now = c.in-Some.ensures.0 in
+    room_readings (Unit {0}) files name c.args.sentences.now c.deref.result.now c.args.grammar.now gives given sections (g.O.Sink.room c.args.out.now) c.write_text.result
+    (subst (λ (bs : List ℕ). (all : List (List ℕ)) → AreSections (AreReadings c.args.grammar.now) 1 (sentences_of bs) all → length (joined all) ≤ g.O.Sink.room c.args.out.now → IfErr c.write_text.result (λ status. status ≢ WriteFault)) same c.write_text.ensures.room)
+    out few
