@@ -66,7 +66,7 @@ module _ (g : Grammar) (xs : List (List ℕ)) (before : List ℕ) where
         sections = h.sections ++ section (i + 1) line body ∷ [];
         are = subst (λ ls. AreSections (AreReadings g) 1 ls (h.sections ++ section (i + 1) line body ∷ [])) (sym (take_more xs i d l)) are';
         is = f ∙ ap Some (ap (λ bs. mid ++ bs) p.is ∙ ap (λ m. m ++ section (i + 1) line body) at ∙ append_assoc before (joined h.sections) (section (i + 1) line body)
-          ∙ ap (λ bs. before ++ bs) (sym (joined-push h.sections (section (i + 1) line body))));
+            ∙ ap (λ bs. before ++ bs) (sym (joined-push h.sections (section (i + 1) line body))));
       }
 
   split_at : (i : ℕ) (d : List ℕ) → i < length xs → xs ≡ take i xs ++ get_or xs i d ∷ drop (suc i) xs
@@ -83,13 +83,22 @@ module _ (g : Grammar) (xs : List (List ℕ)) (before : List ℕ) where
       let n : i + 1 ≡ suc (length (take i xs)) = omega (arith, length-take-le i xs) in
       let line = get_or xs i d in
       let cut = take p.1 (section (suc (length (take i xs))) line p.2.body) in
-      let here : take p.1 p.0 ≡ cut = ap (take p.1) (p.2.is ∙ ap (λ k. section k line p.2.body) n) in
-      (joined h.sections ++ cut,
-      record {
-        written = take i xs; next = line; left = drop (suc i) xs; split = split_at i d l; sections = h.sections; are = h.are;
-        body = p.2.body; is_body = p.2.readings; count = p.1; is = refl;
-      },
-      p.3 ∙ ap Some (ap (λ bs. mid ++ bs) here ∙ ap (λ m. m ++ cut) at ∙ append_assoc before (joined h.sections) cut))
+      let here : take p.1 p.0 ≡ cut = ap (take p.1) (p.2.is ∙ ap (λ k. section k line p.2.body) n) in (
+        joined h.sections ++ cut,
+        record {
+          written = take i xs;
+          next = line;
+          left = drop (suc i) xs;
+          split = split_at i d l;
+          sections = h.sections;
+          are = h.are;
+          body = p.2.body;
+          is_body = p.2.readings;
+          count = p.1;
+          is = refl;
+        },
+        p.3 ∙ ap Some (ap (λ bs. mid ++ bs) here ∙ ap (λ m. m ++ cut) at ∙ append_assoc before (joined h.sections) cut),
+      )
   put_failed T U i d mid midway now Done l h e p = p
   put_failed T U i d mid midway now Usage l h e p = p
   put_failed T U i d mid midway now (ReadFault name) l h e p = p
@@ -205,9 +214,9 @@ module _ {A : Type 0} (f : A → List ℕ) (items : List A) (g : Grammar) where
       let front : r.fronts ≡ h.sections = AreSections-one g 1 (take i xs) r.fronts h.sections r.are h.are in
       let body : r.body ≡ q.1.body = AreReadings-one g line r.body q.1.body r.readings (subst (λ (w : List ℕ). AreReadings g w q.1.body) (sym same) q.1.readings) in
       let here : section (1 + length (take i xs)) line r.body ≡ q.0 =
-          ap (λ (k : ℕ). section k line r.body) n ∙ ap (λ (w : List ℕ). section (i + 1) w r.body) same ∙ ap (λ (b : List ℕ). section (i + 1) (f (get_or items i d)) b) body ∙ sym q.1.is in
+      ap (λ (k : ℕ). section k line r.body) n ∙ ap (λ (w : List ℕ). section (i + 1) w r.body) same ∙ ap (λ (b : List ℕ). section (i + 1) (f (get_or items i d)) b) body ∙ sym q.1.is in
       let total : length (joined all) ≡ length (joined r.fronts) + (length (section (1 + length (take i xs)) line r.body) + length (joined r.backs)) =
-          ap (λ (us : List (List ℕ)). length (joined us)) r.is ∙ joined-length r.fronts _ r.backs in
+      ap (λ (us : List (List ℕ)). length (joined us)) r.is ∙ joined-length r.fronts _ r.backs in
       let x : length (joined r.fronts) ≡ length (joined h.sections) = ap (λ (us : List (List ℕ)). length (joined us)) front in
       let y : length (section (1 + length (take i xs)) line r.body) ≡ length q.0 = ap length here in
       let a : length (joined h.sections) ≤ before = omega (arith, few, total, x) in

@@ -77,7 +77,7 @@ returns-in-Ok-clause-accepted g c files told at = c.in-Ok.ensures.accepted files
 pub returns-in-Err-clause-accepted : goal.returns-in-Err-clause-accepted
 returns-in-Err-clause-accepted g c files told at = elim at [
   | inl e ↦ absurd (never_done (map string_bytes c.args.words.now) (g.F.Shelf.sure c.args.shelf.now) (g.F.Shelf.faults c.args.shelf.now) (g.F.Shelf.faults c.carry_out.new.shelf) (g.F.Shelf.last_failed c.carry_out.new.shelf)
-    (g.O.Sink.faults c.args.out.now) (g.O.Sink.faults c.carry_out.new.out) c.in-Err.status c.in-Err.ensures.failed e)
+      (g.O.Sink.faults c.args.out.now) (g.O.Sink.faults c.carry_out.new.out) c.in-Err.status c.in-Err.ensures.failed e)
   | inr e ↦ taken_at c.in-Err.status (AreAccepted (file_in files) (command_of (map string_bytes c.args.words.now))) (c.in-Err.ensures.accepted files told) e
 ]
 

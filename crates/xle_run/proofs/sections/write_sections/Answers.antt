@@ -22,9 +22,9 @@ pub loop-i-preserved : goal.loop-i-preserved
 loop-i-preserved g c = record {
   faults = omega (arith, c.in_default.ensures.later);
   put = λ before e. put_more_at (λ s. s.now) c.args.sentences.now c.args.grammar.now before c.loop-i.i _ (g.O.Sink.written c.loop-i.out) (g.O.Sink.written c.write_section.new.out) c.loop-i-test.true
-    (c.loop-i.invariant.put before e) c.in_default.ensures.written;
+      (c.loop-i.invariant.put before e) c.in_default.ensures.written;
   room = room_more (λ s. s.now) c.args.sentences.now c.args.grammar.now (Unit {0}) _ c.loop-i.i _ (g.O.Sink.room c.args.out.now) (g.O.Sink.room c.loop-i.out) (g.O.Sink.room c.write_section.new.out) c.loop-i-test.true c.loop-i.invariant.room
-    c.in_default.ensures.room;
+      c.in_default.ensures.room;
 }
 
 pub returns-in-Err-clause-room : goal.returns-in-Err-clause-room
