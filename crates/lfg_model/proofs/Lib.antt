@@ -20,7 +20,9 @@ pub mod ManWalksTree
 pub mod Names
 pub mod Numbered
 pub mod OneTree
+pub mod PathViews
 pub mod ReadingLaws
+pub mod RightSideViews
 pub mod RoundLaws
 pub mod Settling
 pub mod SolutionLaws

@@ -7,9 +7,11 @@ pub mod Literals
 pub mod ManWalks
 pub mod Output
 pub mod PairTexts
+pub mod PathExpressions
 pub mod Places
 pub mod Readings
 pub mod Resolve
+pub mod RightSides
 pub mod Rounds
 pub mod Solve
 pub mod Terms
