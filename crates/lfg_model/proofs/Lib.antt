@@ -18,8 +18,10 @@ pub mod ManWalksFacts
 pub mod ManWalksLaws
 pub mod ManWalksTree
 pub mod Names
+pub mod NestLaws
 pub mod Numbered
 pub mod OneTree
+pub mod PathNotationLaws
 pub mod PathViews
 pub mod ReadingLaws
 pub mod RightSideViews

@@ -5,13 +5,17 @@ pub mod Examples
 pub mod Lists
 pub mod Literals
 pub mod ManWalks
+pub mod Nests
 pub mod Output
 pub mod PairTexts
 pub mod PathExpressions
+pub mod PathNotation
 pub mod Places
 pub mod Readings
 pub mod Resolve
+pub mod RightSideNotation
 pub mod RightSides
+pub mod SchemaNotation
 pub mod Rounds
 pub mod Solve
 pub mod Terms
