@@ -24,8 +24,10 @@ pub mod OneTree
 pub mod PathNotationLaws
 pub mod PathViews
 pub mod ReadingLaws
+pub mod RightSideNotationLaws
 pub mod RightSideViews
 pub mod RoundLaws
+pub mod SchemaNotationLaws
 pub mod Settling
 pub mod SolutionLaws
 pub mod SomeReading

@@ -1,5 +1,8 @@
 pub mod Brackets
 pub mod Derive
+pub mod DraftForms
+pub mod Drafts
+pub mod EntryNotation
 pub mod Equal
 pub mod Examples
 pub mod Lists
