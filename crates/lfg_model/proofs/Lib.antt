@@ -19,6 +19,7 @@ pub mod ManWalksLaws
 pub mod ManWalksTree
 pub mod Names
 pub mod NestLaws
+pub mod NestTurns
 pub mod Numbered
 pub mod OneTree
 pub mod PathNotationLaws

@@ -46,6 +46,12 @@ more_branches r b (Bar ∷ ls) = put b (r.branches ls)
 more_branches r b (CloseBrace ∷ ls) = alone b ls
 more_branches r b ls = None
 
+-- a bar or a closing brace is in front
+abbrev pub ends_branch : List Lexeme → Bool
+ends_branch (Bar ∷ ls) = true
+ends_branch (CloseBrace ∷ ls) = true
+ends_branch ls = false
+
 -- one or more branches, and the closing brace
 abbrev pub branches_by : {A B : Type 0} → Nest A B → Readers A B → Reader (List B)
 branches_by nest r ls = row_by nest r ls >>= λ x. more_branches r (nest.branch x.0) x.1
