@@ -173,14 +173,17 @@ right_at is_pred ls = test_at ls
 
 -- ---- schemata
 
--- what stands behind a designator at the beginning of a schema; if nothing does, and it has a
--- path, it is an existential constraint
+-- a designator alone, which is an existential constraint where it has a path
+abbrev pub left_alone : Left → Reader DraftSchema
+left_alone left ls = cond left.is_long (Some (exists false left.des, ls)) None
+
+-- a designator at the beginning of a schema, with what stands behind it
 abbrev pub behind_left : Left → Reader DraftSchema
 behind_left left (Equals ∷ ls) = right_at left.is_pred ls >>= λ v. Some (define left.des v.0, v.1)
 behind_left left (Constrains ∷ ls) = test_at ls >>= λ v. Some (constrain false left.des v.0, v.1)
 behind_left left (Differs ∷ ls) = test_at ls >>= λ v. Some (constrain true left.des v.0, v.1)
 behind_left left (Dollar ∷ ls) = des_at ls >>= λ d. Some (member left.des d.0, d.1)
-behind_left left ls = cond left.is_long (Some (exists false left.des, ls)) None
+behind_left left ls = left_alone left ls
 
 -- behind `~`: a designator that leads nowhere
 abbrev pub negated_at : Reader DraftSchema

@@ -1,6 +1,10 @@
 //! Reads grammar files: settings, rules, templates and words of a grammar, as they are written.
 #![tactic(auto)]
 
+mod designators;
 mod fault;
+mod forms;
 mod paths;
 mod reading;
+mod schemata;
+mod values;
