@@ -8,7 +8,7 @@ use Rattle.lfg_model.specs.RightSides.{RightSide, item, optional, one_of, right_
 use Rattle.lfg_model.specs.Nests.{◌>>=◌, Readers, readers}
 use Rattle.lfg_model.specs.PathNotation.{repetition_at}
 use Rattle.lfg_model.specs.SchemaNotation.{schemata}
-use Rattle.lfg_model.specs.RightSideNotation.{repeat_side, ended_term, repeated_term, side_row, closes_term, annotated_term, annotated_item, behind_category, category_at, closed_optional, closed_row, term_by, terms}
+use Rattle.lfg_model.specs.RightSideNotation.{repeat_side, ended_term, repeated_term, side_row, closes_term, annotated_term, annotated, behind_category, category_at, closed_optional, closed_row, term_by, terms}
 use Rattle.lfg_model.proofs.NestLaws.{Less, Shrinks, Agree, GoesDown, less_bind, less_weaker, pick, readers_shrink}
 use Rattle.lfg_model.proofs.PathNotationLaws.{repetition_le}
 use Rattle.lfg_model.proofs.SchemaNotationLaws.{schemata_down}
@@ -32,8 +32,8 @@ less_annotated x (_ ∷ ls) = tt
 
 less_category : (cat : Name) (often : Repetition) (ls : List Lexeme) → Less (suc (length ls)) (behind_category cat often ls)
 less_category cat often [] = let h = ended_le (repeat_side often (item cat None)) [] in omega arith
-less_category cat often (Colon ∷ ls) = less_bind (length ls) (suc (suc (length ls))) ((readers schemata).row ls) (λ a. annotated_term (annotated_item cat often a.0) a.1) ((readers_shrink schemata schemata_down).row ls)
-    (λ x l. less_weaker (suc (length x.1)) (suc (suc (length ls))) (annotated_term (annotated_item cat often x.0) x.1) (omega arith) (less_annotated (annotated_item cat often x.0) x.1))
+less_category cat often (Colon ∷ ls) = less_bind (length ls) (suc (suc (length ls))) ((readers schemata).row ls) (λ a. annotated_term (repeat_side often (annotated cat a.0)) a.1) ((readers_shrink schemata schemata_down).row ls)
+    (λ x l. less_weaker (suc (length x.1)) (suc (suc (length ls))) (annotated_term (repeat_side often (annotated cat x.0)) x.1) (omega arith) (less_annotated (repeat_side often (annotated cat x.0)) x.1))
 less_category cat often (l ∷ ls) = let h = ended_le (repeat_side often (item cat None)) (l ∷ ls) in omega arith
 
 less_optional : (xs : List RightSide) (ls : List Lexeme) → Less (length ls) (closed_optional xs ls)

@@ -43,13 +43,13 @@ abbrev pub annotated_term : RightSide → Reader RightSide
 annotated_term x (Semicolon ∷ ls) = Some (x, ls)
 annotated_term x ls = cond (closes_term ls) (Some (x, ls)) None
 
--- a category so often with this annotation
-abbrev pub annotated_item : Name → Repetition → List DraftSchema → RightSide
-annotated_item cat often ss = repeat_side often (item cat (Some (draft_annotation_from ss)))
+-- a category with this annotation
+abbrev pub annotated : Name → List DraftSchema → RightSide
+annotated cat ss = item cat (Some (draft_annotation_from ss))
 
 -- behind a category and its sign of repetition: an annotation, if there is one
 abbrev pub behind_category : Name → Repetition → Reader RightSide
-behind_category cat often (Colon ∷ ls) = (readers schemata).row ls >>= λ a. annotated_term (annotated_item cat often a.0) a.1
+behind_category cat often (Colon ∷ ls) = (readers schemata).row ls >>= λ a. annotated_term (repeat_side often (annotated cat a.0)) a.1
 behind_category cat often ls = Some (ended_term (repeat_side often (item cat None)) ls)
 
 -- a term that is a category, behind its name

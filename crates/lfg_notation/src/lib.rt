@@ -6,5 +6,6 @@ mod fault;
 mod forms;
 mod paths;
 mod reading;
+mod right_sides;
 mod schemata;
 mod values;
