@@ -176,17 +176,7 @@ pub record IsPhrase (ls : List Lexeme) (p : Phrase) : Type 0 where
 abbrev pub names_at : List Lexeme → List Name × List Lexeme
 names_at [] = ([], [])
 names_at (Word name ∷ ls) = let r = names_at ls in (name ∷ r.0, r.1)
-names_at (Open ∷ ls) = ([], Open ∷ ls)
-names_at (Close ∷ ls) = ([], Close ∷ ls)
-names_at (Up ∷ ls) = ([], Up ∷ ls)
-names_at (Down ∷ ls) = ([], Down ∷ ls)
-names_at (Equals ∷ ls) = ([], Equals ∷ ls)
-names_at (Colon ∷ ls) = ([], Colon ∷ ls)
-names_at (Semicolon ∷ ls) = ([], Semicolon ∷ ls)
-names_at (Stop ∷ ls) = ([], Stop ∷ ls)
-names_at (Star ∷ ls) = ([], Star ∷ ls)
-names_at (Arrow ∷ ls) = ([], Arrow ∷ ls)
-names_at (Divider ∷ ls) = ([], Divider ∷ ls)
+names_at (l ∷ ls) = ([], l ∷ ls)
 
 -- an equation of this path, with `)=NAME` behind it
 abbrev pub value_at : List Name × List Lexeme → Option (Equation × List Lexeme)

@@ -1,30 +1,72 @@
 use lfg_terms::Name;
 
-/// A token that a thin grammar file may have.
+/// A token of a grammar file or of a rule file: a name, or one of the symbols.
 #[derive(Debug, Drop)]
 pub enum Lexeme {
-    /// A name without a hyphen.
+    /// A name.
     Word(Name),
     /// `(`
     Open,
     /// `)`
     Close,
+    /// `[`
+    OpenBracket,
+    /// `]`
+    CloseBracket,
+    /// `{`
+    OpenBrace,
+    /// `}`
+    CloseBrace,
+    /// `<`
+    Less,
+    /// `>`
+    Greater,
+    /// `|`
+    Bar,
+    /// `'`
+    Quote,
     /// `^`
     Up,
     /// `!`
     Down,
     /// `=`
     Equals,
-    /// `:`
-    Colon,
-    /// `;`
-    Semicolon,
-    /// `.`
-    Stop,
+    /// `=c`
+    Constrains,
+    /// `~=`
+    Differs,
+    /// `~`
+    Not,
+    /// `$`
+    Dollar,
+    /// `@`
+    At,
     /// `*`
     Star,
+    /// `+`
+    Plus,
+    /// `-`
+    Minus,
+    /// `,`
+    Comma,
+    /// `;`
+    Semicolon,
+    /// `:`
+    Colon,
+    /// `::`
+    DoubleColon,
+    /// `.`
+    Stop,
+    /// `%`
+    Percent,
     /// `-->`
     Arrow,
+    /// `==>`
+    DoubleArrow,
+    /// `?=>`
+    OptionalArrow,
+    /// `:=`
+    Becomes,
     /// `----`
     Divider,
 }

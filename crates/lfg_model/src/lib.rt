@@ -5,12 +5,14 @@
 mod constant;
 pub mod laws;
 mod lexeme;
+mod notation;
 mod pair;
 mod status;
 mod token;
 
 pub use constant::Constant;
 pub use lexeme::Lexeme;
+pub use notation::{Repetition, SectionKind, Separator};
 pub use pair::Pair;
 pub use status::{GrammarFault, Status};
 pub use token::{Token, TokenKind, longest_tokens, one_reading};

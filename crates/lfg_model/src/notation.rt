@@ -1,0 +1,34 @@
+/// How often something stands that may be repeated.
+#[derive(Clone, Copy, Debug, PartialEq, Eq, Drop)]
+pub enum Repetition {
+    /// It stands once.
+    Once,
+    /// Any number of times, written `*`.
+    AnyTimes,
+    /// One or more times, written `+`.
+    OnceOrMore,
+}
+
+/// What a row of lexemes is cut at.
+#[derive(Clone, Copy, Debug, PartialEq, Eq, Drop)]
+pub enum Separator {
+    /// `----`, which ends a section.
+    Divider,
+    /// `.`, which ends an entry.
+    Stop,
+    /// `;`, which ends a reading of a word.
+    Semicolon,
+}
+
+/// Of what kind a section of a grammar file is.
+#[derive(Clone, Copy, Debug, PartialEq, Eq, Drop)]
+pub enum SectionKind {
+    /// Settings.
+    Config,
+    /// Phrase structure rules with their annotations.
+    Rules,
+    /// Templates.
+    Templates,
+    /// Words with their categories and annotations.
+    Lexicon,
+}
