@@ -1,13 +1,19 @@
 -- A command over files has one output.
-use Rattle.std.proofs.Common.{◌≡◌, ℕ, suc, List, [], ◌∷◌, ◌++◌, Option, Some, None, refl, sym, ap, subst, ◌∙◌}
+use Rattle.std.proofs.Common.{◌≡◌, ℕ, suc, ◌<◌, ◌≤◌, List, [], ◌∷◌, ◌++◌, Option, Some, None, refl, sym, ap, subst, ◌∙◌, arith, length}
+use Rattle.std.specs.Prelude.{Result, Ok, Err}
 use Rattle.std.specs.List.{flat_map}
 use Rattle.lfg_terms.specs.declared.grammar.Grammar.{Grammar}
 use Rattle.lfg_model.specs.declared.pair.Pair.{Pair}
+use Rattle.lfg_model.specs.declared.status.GrammarFault.{GrammarFault}
 use Rattle.lfg_model.specs.declared.status.Status.{Status}
-use Rattle.lfg_model.specs.declared.status.Status.TheVariants.{Done, Usage, ReadFault, BadGrammar, WriteFault, Memory}
+use Rattle.lfg_model.specs.declared.status.Status.TheVariants.{Done, Usage, ReadFault, FileTooLong, BadGrammar, WriteFault, Memory}
+use Rattle.lfg_model.specs.declared.token.Token.{Token}
+use Rattle.lfg_model.specs.DraftForms.{DraftForm}
+use Rattle.lfg_model.specs.Drafts.{Drafts, FileFault, not_utf8, no_token, no_lexemes, LexemesFault, HasFault, said, lexemes_of}
 use Rattle.lfg_model.specs.PairTexts.{pair_text}
 use Rattle.lfg_model.specs.ThinText.{ThinFile, ThinSentences, words, token_of}
-use Rattle.lfg_model.specs.Output.{Command, readings, section, AreSections, none, more, AreReadings, IsOutput, usage, no_grammar, bad_grammar, no_sentences, bad_sentences, all_read, sentences_of, AreAccepted, both_thin, IfBadGrammar, OneOutput}
+use Rattle.lfg_model.specs.Output.{Command, readings, section, AreSections, none, more, AreReadings, file_limit, fault_of, IsFaultOf, at_fault, not_thin, IsOutput, usage, no_grammar, long_grammar, bad_grammar, no_sentences, long_sentences, bad_sentences, all_read, sentences_of, AreAccepted, both_thin, IfBadGrammar, IfTooLong, OneOutput}
+use Rattle.lfg_model.proofs.OneReading.{one_row, not_both, one_place}
 use Rattle.lfg_model.proofs.OneTree.{same_some}
 use Rattle.lfg_model.proofs.ReadingLaws.{readings_are_one}
 use Rattle.lfg_model.proofs.ThinLaws.{one_thin_grammar}
@@ -33,6 +39,44 @@ AreSections-one g n (l ∷ ls) (s ∷ ss) (u ∷ us) (more {body = a} h p) (more
 some_none : {X : Type 0} {o : Option X} {x : X} → o ≡ None → o ≡ Some x → ⊥
 some_none e f = cc
 
+-- ---- why a file is no grammar file
+
+same_err : (A E : Type 0) (r s : Result A E) (x y : E) → r ≡ s → r ≡ Err x → s ≡ Err y → x ≡ y
+same_err A E r s x y p q k = cc
+
+ok_not_err : (A E : Type 0) (r s : Result A E) (x : A) (y : E) → r ≡ s → r ≡ Ok x → s ≡ Err y → ⊥
+ok_not_err A E r s x y p q k = cc
+
+-- a file has one fault
+one_file_fault : (bytes : List ℕ) (e f : FileFault) → HasFault bytes e → HasFault bytes f → e ≡ f
+one_file_fault bytes (not_utf8 a) (not_utf8 b) h k = ap not_utf8 (h.1 ∙ sym k.1)
+one_file_fault bytes (not_utf8 a) (no_token b) h k = absurd (h.0 k.0)
+one_file_fault bytes (not_utf8 a) (no_lexemes f) h k = absurd (h.0 k.has.utf8)
+one_file_fault bytes (no_token a) (not_utf8 b) h k = absurd (k.0 h.0)
+one_file_fault bytes (no_token a) (no_token b) h k = ap no_token (one_place h.1 k.1)
+one_file_fault bytes (no_token a) (no_lexemes f) h k = absurd (not_both k.has.read h.1)
+one_file_fault bytes (no_lexemes e) (not_utf8 b) h k = absurd (k.0 h.has.utf8)
+one_file_fault bytes (no_lexemes e) (no_token b) h k = absurd (not_both h.has.read k.1)
+one_file_fault bytes (no_lexemes e) (no_lexemes f) h k =
+    let same : h.tokens ≡ k.tokens = one_row h.has.read k.has.read in
+    ap no_lexemes (same_err DraftForm LexemesFault _ _ e f (ap (λ (ts : List Token). said (lexemes_of ts)) same) h.says k.says)
+
+-- and none where it is a grammar file
+pub no_fault : (bytes : List ℕ) (d : DraftForm) (e : FileFault) → Drafts bytes d → HasFault bytes e → ⊥
+no_fault bytes d (not_utf8 a) h k = k.0 h.has.utf8
+no_fault bytes d (no_token a) h k = not_both h.has.read k.1
+no_fault bytes d (no_lexemes e) h k =
+    let same : h.tokens ≡ k.tokens = one_row h.has.read k.has.read in
+    ok_not_err DraftForm LexemesFault _ _ d e (ap (λ (ts : List Token). said (lexemes_of ts)) same) h.says k.says
+
+one_fault : (bytes : List ℕ) (e f : GrammarFault) → IsFaultOf bytes e → IsFaultOf bytes f → e ≡ f
+one_fault bytes e f (at_fault a h p) (at_fault b k q) = p ∙ ap fault_of (one_file_fault bytes a b h k) ∙ sym q
+one_fault bytes e f (at_fault a h p) (not_thin d q) = absurd (no_fault bytes _ a d h)
+one_fault bytes e f (not_thin d p) (at_fault b k q) = absurd (no_fault bytes _ b d k)
+one_fault bytes e f (not_thin d p) (not_thin c q) = p ∙ sym q
+
+-- ---- one output
+
 module _ (files : List ℕ → Option (List ℕ)) where
   same_bytes : (name a b : List ℕ) → files name ≡ Some a → files name ≡ Some b → a ≡ b
   same_bytes name a b e f = same_some a b (sym e ∙ f)
@@ -47,6 +91,19 @@ module _ (files : List ℕ → Option (List ℕ)) where
   text_not : (name a b : List ℕ) → files name ≡ Some a → ¬ ThinSentences a → files name ≡ Some b → ThinSentences b → ⊥
   text_not name a b e n f t = n (subst ThinSentences (same_bytes name b a f e) t)
 
+  -- a file is not longer than the limit and shorter
+  long_not : (name a b : List ℕ) → files name ≡ Some a → file_limit < length a → files name ≡ Some b → length b ≤ file_limit → ⊥
+  long_not name a b e l f m = let h : length a ≡ length b = ap length (same_bytes name a b e f) in omega (arith, l, m, h)
+
+  thin_short : (bytes : List ℕ) (g : Grammar) → ThinFile bytes g → length bytes ≤ file_limit
+  thin_short bytes g t = let h = t.short in omega (arith, h)
+
+  text_short : (bytes : List ℕ) → ThinSentences bytes → length bytes ≤ file_limit
+  text_short bytes t = let h = t.short in omega (arith, h)
+
+  same_fault : (name a b : List ℕ) (e f : GrammarFault) → files name ≡ Some a → IsFaultOf a e → files name ≡ Some b → IsFaultOf b f → e ≡ f
+  same_fault name a b e f p h q k = one_fault a e f h (subst (λ (bs : List ℕ). IsFaultOf bs f) (same_bytes name b a q p) k)
+
   same_sections : (g h : Grammar) (a b : List ℕ) (ss us : List (List ℕ)) → g ≡ h → a ≡ b → AreSections (AreReadings g) 1 (sentences_of a) ss
       → AreSections (AreReadings h) 1 (sentences_of b) us → ss ≡ us
   same_sections g h a b ss us e f p q =
@@ -56,9 +113,11 @@ module _ (files : List ℕ → Option (List ℕ)) where
   pub sections_of_output : (g s a t : List ℕ) (grammar : Grammar) (ss : List (List ℕ)) (st : Status) → files g ≡ Some a → ThinFile a grammar → files s ≡ Some t
       → IsOutput files (Some (readings g s)) ss st → st ≡ Done → AreSections (AreReadings grammar) 1 (sentences_of t) ss
   sections_of_output g s a t grammar ss st e thin f (no_grammar h) d = cc
-  sections_of_output g s a t grammar ss st e thin f (bad_grammar h n) d = cc
+  sections_of_output g s a t grammar ss st e thin f (long_grammar h l) d = cc
+  sections_of_output g s a t grammar ss st e thin f (bad_grammar h l n w) d = cc
   sections_of_output g s a t grammar ss st e thin f (no_sentences h u n) d = cc
-  sections_of_output g s a t grammar ss st e thin f (bad_sentences h u n v) d = cc
+  sections_of_output g s a t grammar ss st e thin f (long_sentences h u n l) d = cc
+  sections_of_output g s a t grammar ss st e thin f (bad_sentences h u n l v) d = cc
   sections_of_output g s a t grammar ss st e thin f (all_read {bytes = b} {text = text} {grammar = other} h u n v are) d =
       let same : other ≡ grammar = same_grammar g b a other grammar h u e thin in
       let one : text ≡ t = same_bytes s text t n f in
@@ -67,36 +126,71 @@ module _ (files : List ℕ → Option (List ℕ)) where
   -- no file of an accepted command is refused
   pub accepted_not_bad : (c : Option Command) (ss : List (List ℕ)) (st : Status) → AreAccepted files c → IsOutput files c ss st → IfBadGrammar st (λ name fault. ⊥)
   accepted_not_bad c ss st (both_thin e t f u) (no_grammar h) = tt
-  accepted_not_bad c ss st (both_thin e t f u) (bad_grammar h n) = thin_not _ _ _ _ h n e t
+  accepted_not_bad c ss st (both_thin e t f u) (long_grammar h l) = tt
+  accepted_not_bad c ss st (both_thin e t f u) (bad_grammar h l n w) = thin_not _ _ _ _ h n e t
   accepted_not_bad c ss st (both_thin e t f u) (no_sentences h v n) = tt
-  accepted_not_bad c ss st (both_thin e t f u) (bad_sentences h v n m) = text_not _ _ _ n m f u
+  accepted_not_bad c ss st (both_thin e t f u) (long_sentences h v n l) = tt
+  accepted_not_bad c ss st (both_thin e t f u) (bad_sentences h v n l m) = text_not _ _ _ n m f u
   accepted_not_bad c ss st (both_thin e t f u) (all_read h v n w are) = tt
+
+  -- or too long
+  pub accepted_not_long : (c : Option Command) (ss : List (List ℕ)) (st : Status) → AreAccepted files c → IsOutput files c ss st → IfTooLong st (λ name. ⊥)
+  accepted_not_long c ss st (both_thin e t f u) (no_grammar h) = tt
+  accepted_not_long c ss st (both_thin e t f u) (long_grammar h l) = long_not _ _ _ h l e (thin_short _ _ t)
+  accepted_not_long c ss st (both_thin e t f u) (bad_grammar h l n w) = tt
+  accepted_not_long c ss st (both_thin e t f u) (no_sentences h v n) = tt
+  accepted_not_long c ss st (both_thin e t f u) (long_sentences h v n l) = long_not _ _ _ n l f (text_short _ u)
+  accepted_not_long c ss st (both_thin e t f u) (bad_sentences h v n l m) = tt
+  accepted_not_long c ss st (both_thin e t f u) (all_read h v n w are) = tt
 
 pub one_output : OneOutput
 one_output files c ss us s u usage usage = (refl, refl)
-one_output files c ss us s u (no_grammar e) (no_grammar f) = (refl, refl)
-one_output files c ss us s u (no_grammar e) (bad_grammar f n) = absurd (some_none e f)
-one_output files c ss us s u (no_grammar e) (no_sentences f t n) = absurd (some_none e f)
-one_output files c ss us s u (no_grammar e) (bad_sentences f t g n) = absurd (some_none e f)
-one_output files c ss us s u (no_grammar e) (all_read f t g v are) = absurd (some_none e f)
-one_output files c ss us s u (bad_grammar e n) (no_grammar f) = absurd (some_none f e)
-one_output files c ss us s u (bad_grammar e n) (bad_grammar f m) = (refl, refl)
-one_output files c ss us s u (bad_grammar e n) (no_sentences f t g) = absurd (thin_not files _ _ _ _ e n f t)
-one_output files c ss us s u (bad_grammar e n) (bad_sentences f t g m) = absurd (thin_not files _ _ _ _ e n f t)
-one_output files c ss us s u (bad_grammar e n) (all_read f t g v are) = absurd (thin_not files _ _ _ _ e n f t)
-one_output files c ss us s u (no_sentences e t n) (no_grammar f) = absurd (some_none f e)
-one_output files c ss us s u (no_sentences e t n) (bad_grammar f m) = absurd (thin_not files _ _ _ _ f m e t)
-one_output files c ss us s u (no_sentences e t n) (no_sentences f v m) = (refl, refl)
-one_output files c ss us s u (no_sentences e t n) (bad_sentences f v g m) = absurd (some_none n g)
-one_output files c ss us s u (no_sentences e t n) (all_read f v g w are) = absurd (some_none n g)
-one_output files c ss us s u (bad_sentences e t h n) (no_grammar f) = absurd (some_none f e)
-one_output files c ss us s u (bad_sentences e t h n) (bad_grammar f m) = absurd (thin_not files _ _ _ _ f m e t)
-one_output files c ss us s u (bad_sentences e t h n) (no_sentences f v m) = absurd (some_none m h)
-one_output files c ss us s u (bad_sentences e t h n) (bad_sentences f v g m) = (refl, refl)
-one_output files c ss us s u (bad_sentences e t h n) (all_read f v g w are) = absurd (text_not files _ _ _ h n g w)
-one_output files c ss us s u (all_read e t h v are) (no_grammar f) = absurd (some_none f e)
-one_output files c ss us s u (all_read e t h v are) (bad_grammar f m) = absurd (thin_not files _ _ _ _ f m e t)
-one_output files c ss us s u (all_read e t h v are) (no_sentences f w m) = absurd (some_none m h)
-one_output files c ss us s u (all_read e t h v are) (bad_sentences f w g m) = absurd (text_not files _ _ _ g m h v)
-one_output files c ss us s u (all_read e t h v are) (all_read f w k x bre) =
-    (same_sections files _ _ _ _ ss us (same_grammar files _ _ _ _ _ e t f w) (same_bytes files _ _ _ h k) are bre, refl)
+one_output files c ss us s u (no_grammar e1) (no_grammar e2) = (refl, refl)
+one_output files c ss us s u (no_grammar e1) (long_grammar e2 l2) = absurd (some_none e1 e2)
+one_output files c ss us s u (no_grammar e1) (bad_grammar e2 l2 n2 w2) = absurd (some_none e1 e2)
+one_output files c ss us s u (no_grammar e1) (no_sentences e2 t2 n2) = absurd (some_none e1 e2)
+one_output files c ss us s u (no_grammar e1) (long_sentences e2 t2 n2 l2) = absurd (some_none e1 e2)
+one_output files c ss us s u (no_grammar e1) (bad_sentences e2 t2 n2 l2 m2) = absurd (some_none e1 e2)
+one_output files c ss us s u (no_grammar e1) (all_read e2 t2 n2 v2 are2) = absurd (some_none e1 e2)
+one_output files c ss us s u (long_grammar e1 l1) (no_grammar e2) = absurd (some_none e2 e1)
+one_output files c ss us s u (long_grammar e1 l1) (long_grammar e2 l2) = (refl, refl)
+one_output files c ss us s u (long_grammar e1 l1) (bad_grammar e2 l2 n2 w2) = absurd (long_not files _ _ _ e1 l1 e2 l2)
+one_output files c ss us s u (long_grammar e1 l1) (no_sentences e2 t2 n2) = absurd (long_not files _ _ _ e1 l1 e2 (thin_short files _ _ t2))
+one_output files c ss us s u (long_grammar e1 l1) (long_sentences e2 t2 n2 l2) = absurd (long_not files _ _ _ e1 l1 e2 (thin_short files _ _ t2))
+one_output files c ss us s u (long_grammar e1 l1) (bad_sentences e2 t2 n2 l2 m2) = absurd (long_not files _ _ _ e1 l1 e2 (thin_short files _ _ t2))
+one_output files c ss us s u (long_grammar e1 l1) (all_read e2 t2 n2 v2 are2) = absurd (long_not files _ _ _ e1 l1 e2 (thin_short files _ _ t2))
+one_output files c ss us s u (bad_grammar e1 l1 n1 w1) (no_grammar e2) = absurd (some_none e2 e1)
+one_output files c ss us s u (bad_grammar e1 l1 n1 w1) (long_grammar e2 l2) = absurd (long_not files _ _ _ e2 l2 e1 l1)
+one_output files c ss us s u (bad_grammar {g = g} e1 l1 n1 w1) (bad_grammar e2 l2 n2 w2) = (refl, ap (λ (f : GrammarFault). BadGrammar g f) (same_fault files _ _ _ _ _ e1 w1 e2 w2))
+one_output files c ss us s u (bad_grammar e1 l1 n1 w1) (no_sentences e2 t2 n2) = absurd (thin_not files _ _ _ _ e1 n1 e2 t2)
+one_output files c ss us s u (bad_grammar e1 l1 n1 w1) (long_sentences e2 t2 n2 l2) = absurd (thin_not files _ _ _ _ e1 n1 e2 t2)
+one_output files c ss us s u (bad_grammar e1 l1 n1 w1) (bad_sentences e2 t2 n2 l2 m2) = absurd (thin_not files _ _ _ _ e1 n1 e2 t2)
+one_output files c ss us s u (bad_grammar e1 l1 n1 w1) (all_read e2 t2 n2 v2 are2) = absurd (thin_not files _ _ _ _ e1 n1 e2 t2)
+one_output files c ss us s u (no_sentences e1 t1 n1) (no_grammar e2) = absurd (some_none e2 e1)
+one_output files c ss us s u (no_sentences e1 t1 n1) (long_grammar e2 l2) = absurd (long_not files _ _ _ e2 l2 e1 (thin_short files _ _ t1))
+one_output files c ss us s u (no_sentences e1 t1 n1) (bad_grammar e2 l2 n2 w2) = absurd (thin_not files _ _ _ _ e2 n2 e1 t1)
+one_output files c ss us s u (no_sentences e1 t1 n1) (no_sentences e2 t2 n2) = (refl, refl)
+one_output files c ss us s u (no_sentences e1 t1 n1) (long_sentences e2 t2 n2 l2) = absurd (some_none n1 n2)
+one_output files c ss us s u (no_sentences e1 t1 n1) (bad_sentences e2 t2 n2 l2 m2) = absurd (some_none n1 n2)
+one_output files c ss us s u (no_sentences e1 t1 n1) (all_read e2 t2 n2 v2 are2) = absurd (some_none n1 n2)
+one_output files c ss us s u (long_sentences e1 t1 n1 l1) (no_grammar e2) = absurd (some_none e2 e1)
+one_output files c ss us s u (long_sentences e1 t1 n1 l1) (long_grammar e2 l2) = absurd (long_not files _ _ _ e2 l2 e1 (thin_short files _ _ t1))
+one_output files c ss us s u (long_sentences e1 t1 n1 l1) (bad_grammar e2 l2 n2 w2) = absurd (thin_not files _ _ _ _ e2 n2 e1 t1)
+one_output files c ss us s u (long_sentences e1 t1 n1 l1) (no_sentences e2 t2 n2) = absurd (some_none n2 n1)
+one_output files c ss us s u (long_sentences e1 t1 n1 l1) (long_sentences e2 t2 n2 l2) = (refl, refl)
+one_output files c ss us s u (long_sentences e1 t1 n1 l1) (bad_sentences e2 t2 n2 l2 m2) = absurd (long_not files _ _ _ n1 l1 n2 l2)
+one_output files c ss us s u (long_sentences e1 t1 n1 l1) (all_read e2 t2 n2 v2 are2) = absurd (long_not files _ _ _ n1 l1 n2 (text_short files _ v2))
+one_output files c ss us s u (bad_sentences e1 t1 n1 l1 m1) (no_grammar e2) = absurd (some_none e2 e1)
+one_output files c ss us s u (bad_sentences e1 t1 n1 l1 m1) (long_grammar e2 l2) = absurd (long_not files _ _ _ e2 l2 e1 (thin_short files _ _ t1))
+one_output files c ss us s u (bad_sentences e1 t1 n1 l1 m1) (bad_grammar e2 l2 n2 w2) = absurd (thin_not files _ _ _ _ e2 n2 e1 t1)
+one_output files c ss us s u (bad_sentences e1 t1 n1 l1 m1) (no_sentences e2 t2 n2) = absurd (some_none n2 n1)
+one_output files c ss us s u (bad_sentences e1 t1 n1 l1 m1) (long_sentences e2 t2 n2 l2) = absurd (long_not files _ _ _ n2 l2 n1 l1)
+one_output files c ss us s u (bad_sentences e1 t1 n1 l1 m1) (bad_sentences e2 t2 n2 l2 m2) = (refl, refl)
+one_output files c ss us s u (bad_sentences e1 t1 n1 l1 m1) (all_read e2 t2 n2 v2 are2) = absurd (text_not files _ _ _ n1 m1 n2 v2)
+one_output files c ss us s u (all_read e1 t1 n1 v1 are1) (no_grammar e2) = absurd (some_none e2 e1)
+one_output files c ss us s u (all_read e1 t1 n1 v1 are1) (long_grammar e2 l2) = absurd (long_not files _ _ _ e2 l2 e1 (thin_short files _ _ t1))
+one_output files c ss us s u (all_read e1 t1 n1 v1 are1) (bad_grammar e2 l2 n2 w2) = absurd (thin_not files _ _ _ _ e2 n2 e1 t1)
+one_output files c ss us s u (all_read e1 t1 n1 v1 are1) (no_sentences e2 t2 n2) = absurd (some_none n2 n1)
+one_output files c ss us s u (all_read e1 t1 n1 v1 are1) (long_sentences e2 t2 n2 l2) = absurd (long_not files _ _ _ n2 l2 n1 (text_short files _ v1))
+one_output files c ss us s u (all_read e1 t1 n1 v1 are1) (bad_sentences e2 t2 n2 l2 m2) = absurd (text_not files _ _ _ n2 m2 n1 v1)
+one_output files c ss us s u (all_read e1 t1 n1 v1 are1) (all_read e2 t2 n2 v2 are2) = (same_sections files _ _ _ _ ss us (same_grammar files _ _ _ _ _ e1 t1 e2 t2) (same_bytes files _ _ _ n1 n2) are1 are2, refl)

@@ -1,16 +1,19 @@
 -- What the program writes: its command line, its exit status and the line for a fault.
-use Rattle.std.specs.Prelude.{◌≡◌, ℕ, suc, not, ◌==◌, if◌then◌else◌, Option, Some, None, List, [], ◌∷◌, ◌++◌, map, filter, take, length, decimal, codes}
+use Rattle.std.specs.Prelude.{◌≡◌, ◌<◌, ◌≤◌, ℕ, suc, not, ◌==◌, if◌then◌else◌, Option, Some, None, List, [], ◌∷◌, ◌++◌, map, filter, take, length, decimal, codes}
 use Rattle.std.specs.List.{flat_map}
 use Rattle.std.specs.Str.Lines.{lines}
 use Rattle.lfg_terms.specs.declared.grammar.Grammar.{Grammar}
 use Rattle.lfg_model.specs.declared.pair.Pair.{Pair}
 use Rattle.std.specs.Cmp.Lexicographic.{pointwise}
 use Rattle.lfg_model.specs.declared.status.GrammarFault.{GrammarFault}
-use Rattle.lfg_model.specs.declared.status.GrammarFault.TheVariants.{Entry}
+use Rattle.lfg_model.specs.declared.status.GrammarFault.TheVariants.{NotUtf8, NoToken, Section, Entry}
 use Rattle.lfg_model.specs.declared.status.Status.{Status}
-use Rattle.lfg_model.specs.declared.status.Status.TheVariants.{Done, Usage, ReadFault, BadGrammar, WriteFault, Memory}
+use Rattle.lfg_model.specs.declared.status.Status.TheVariants.{Done, Usage, ReadFault, FileTooLong, BadGrammar, WriteFault, Memory}
 use Rattle.lfg_model.specs.Lists.{In}
 use Rattle.lfg_model.specs.PairTexts.{pair_text}
+use Rattle.lfg_model.specs.DraftForms.{DraftForm}
+use Rattle.lfg_model.specs.Drafts as drafts
+use Rattle.lfg_model.specs.Drafts.{Drafts, FileFault, HasFault}
 use Rattle.lfg_model.specs.Readings.{IsReadings}
 use Rattle.lfg_model.specs.ThinText.{ThinFile, ThinSentences, words, token_of}
 
@@ -19,19 +22,35 @@ abbrev pub exit_status : Status → ℕ
 exit_status Done = 0
 exit_status Usage = 2
 exit_status (ReadFault name) = 3
+exit_status (FileTooLong name) = 4
 exit_status (BadGrammar name fault) = 5
 exit_status WriteFault = 11
 exit_status Memory = 12
 
+-- the name of a fault
+abbrev pub fault_name : GrammarFault → List ℕ
+fault_name (NotUtf8 at) = codes "NotUtf8"
+fault_name (NoToken at) = codes "NoToken"
+fault_name (Section number) = codes "Section"
+fault_name (Entry number) = codes "Entry"
+
+-- the place or the number that a fault has
+abbrev pub fault_number : GrammarFault → ℕ
+fault_number (NotUtf8 at) = at
+fault_number (NoToken at) = at
+fault_number (Section number) = number
+fault_number (Entry number) = number
+
 -- a fault by its name and its number
 abbrev pub fault_text : GrammarFault → List ℕ
-fault_text (Entry number) = codes "Entry " ++ decimal number
+fault_text fault = fault_name fault ++ 32 ∷ decimal (fault_number fault)
 
 -- what stands behind `xle: ` in the line for a status
 abbrev pub fault_message : Status → List ℕ
 fault_message Done = []
 fault_message Usage = codes "usage"
 fault_message (ReadFault name) = codes "cannot read " ++ name
+fault_message (FileTooLong name) = codes "too long: " ++ name
 fault_message (BadGrammar name fault) = name ++ codes ": " ++ fault_text fault
 fault_message WriteFault = codes "cannot write"
 fault_message Memory = codes "out of memory"
@@ -62,6 +81,11 @@ IsFileOf words name = In name (files_of (command_of words))
 abbrev pub IfReadFault : Status → (List ℕ → Type 0) → Type 0
 IfReadFault (ReadFault name) P = P name
 IfReadFault _ P = Unit {0}
+
+-- where the status is that a file is too long, what holds of its name
+abbrev pub IfTooLong : Status → (List ℕ → Type 0) → Type 0
+IfTooLong (FileTooLong name) P = P name
+IfTooLong _ P = Unit {0}
 
 -- where the status is that a file is not accepted, what holds of its name and the fault
 abbrev pub IfBadGrammar : Status → (List ℕ → GrammarFault → Type 0) → Type 0
@@ -94,9 +118,22 @@ pub record AreReadings (g : Grammar) (line body : List ℕ) : Type 0 where
   pub readings : IsReadings g (map token_of (words line)) pairs
   pub is : body ≡ flat_map pair_text pairs
 
--- the status of a file that is not accepted
-abbrev pub not_accepted : List ℕ → Status
-not_accepted name = BadGrammar name (Entry 0)
+-- the most bytes of a file
+abbrev pub file_limit : ℕ
+file_limit = 4194304
+
+-- what is at fault with a grammar file, as a status tells it
+abbrev pub fault_of : FileFault → GrammarFault
+fault_of (drafts.not_utf8 at) = NotUtf8 at
+fault_of (drafts.no_token at) = NoToken at
+fault_of (drafts.no_lexemes (drafts.bad_section number)) = Section number
+fault_of (drafts.no_lexemes (drafts.bad_entry number)) = Entry number
+
+-- Why a grammar file is not accepted: what is at fault with it; or, with the number 0, that it is a
+-- grammar file and not thin.
+pub data IsFaultOf (bytes : List ℕ) (fault : GrammarFault) : Type 0 where
+  at_fault : (why : FileFault) → HasFault bytes why → fault ≡ fault_of why → IsFaultOf bytes fault
+  not_thin : {draft : DraftForm} → Drafts bytes draft → fault ≡ Entry 0 → IsFaultOf bytes fault
 
 -- The files of the command are there and accepted.
 pub data AreAccepted (files : List ℕ → Option (List ℕ)) : Option Command → Type 0 where
@@ -114,12 +151,15 @@ pub data ComesTo (files : List ℕ → Option (List ℕ)) : Option Command → L
 pub data IsOutput (files : List ℕ → Option (List ℕ)) : Option Command → List (List ℕ) → Status → Type 0 where
   usage : IsOutput files None [] Usage
   no_grammar : {g s : List ℕ} → files g ≡ None → IsOutput files (Some (readings g s)) [] (ReadFault g)
-  bad_grammar : {g s bytes : List ℕ} → files g ≡ Some bytes → ((grammar : Grammar) → ¬ ThinFile bytes grammar)
-      → IsOutput files (Some (readings g s)) [] (not_accepted g)
+  long_grammar : {g s bytes : List ℕ} → files g ≡ Some bytes → file_limit < length bytes → IsOutput files (Some (readings g s)) [] (FileTooLong g)
+  bad_grammar : {g s bytes : List ℕ} {fault : GrammarFault} → files g ≡ Some bytes → length bytes ≤ file_limit → ((grammar : Grammar) → ¬ ThinFile bytes grammar)
+      → IsFaultOf bytes fault → IsOutput files (Some (readings g s)) [] (BadGrammar g fault)
   no_sentences : {g s bytes : List ℕ} {grammar : Grammar} → files g ≡ Some bytes → ThinFile bytes grammar → files s ≡ None
       → IsOutput files (Some (readings g s)) [] (ReadFault s)
-  bad_sentences : {g s bytes text : List ℕ} {grammar : Grammar} → files g ≡ Some bytes → ThinFile bytes grammar → files s ≡ Some text → ¬ ThinSentences text
-      → IsOutput files (Some (readings g s)) [] (not_accepted s)
+  long_sentences : {g s bytes text : List ℕ} {grammar : Grammar} → files g ≡ Some bytes → ThinFile bytes grammar → files s ≡ Some text → file_limit < length text
+      → IsOutput files (Some (readings g s)) [] (FileTooLong s)
+  bad_sentences : {g s bytes text : List ℕ} {grammar : Grammar} → files g ≡ Some bytes → ThinFile bytes grammar → files s ≡ Some text → length text ≤ file_limit → ¬ ThinSentences text
+      → IsOutput files (Some (readings g s)) [] (BadGrammar s (Entry 0))
   all_read : {g s bytes text : List ℕ} {grammar : Grammar} {sections : List (List ℕ)} → files g ≡ Some bytes → ThinFile bytes grammar
       → files s ≡ Some text → ThinSentences text → AreSections (AreReadings grammar) 1 (sentences_of text) sections
       → IsOutput files (Some (readings g s)) sections Done

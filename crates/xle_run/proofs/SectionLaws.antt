@@ -8,7 +8,7 @@ use Rattle.std.proofs.lemmas.Grind.{flat_map-append}
 use Rattle.std.proofs.Math.Seq.{drop-cons, take-length}
 use Rattle.lfg_terms.specs.declared.grammar.Grammar.{Grammar}
 use Rattle.lfg_model.specs.declared.status.Status.{Status}
-use Rattle.lfg_model.specs.declared.status.Status.TheVariants.{Done, Usage, ReadFault, BadGrammar, WriteFault, Memory}
+use Rattle.lfg_model.specs.declared.status.Status.TheVariants.{Done, Usage, ReadFault, FileTooLong, BadGrammar, WriteFault, Memory}
 use Rattle.lfg_model.specs.Lists.{In}
 use Rattle.lfg_model.specs.ThinText.{is_thin_line, ThinSentences}
 use Rattle.lfg_model.proofs.Classing.{all_pass}
@@ -102,6 +102,7 @@ module _ (g : Grammar) (xs : List (List ℕ)) (before : List ℕ) where
   put_failed T U i d mid midway now Done l h e p = p
   put_failed T U i d mid midway now Usage l h e p = p
   put_failed T U i d mid midway now (ReadFault name) l h e p = p
+  put_failed T U i d mid midway now (FileTooLong name) l h e p = p
   put_failed T U i d mid midway now (BadGrammar name fault) l h e p = p
 
   -- at the end all sentences have their sections

@@ -4,7 +4,7 @@ use Rattle.std.specs.Prelude.{◌≢◌, Result, Ok, Err, IfErr}
 use Rattle.lfg_io.specs.Shelf.{Files, file_in}
 use Rattle.lfg_terms.specs.declared.grammar.Grammar.{Grammar}
 use Rattle.lfg_model.specs.declared.status.Status.{Status}
-use Rattle.lfg_model.specs.declared.status.Status.TheVariants.{Done, Usage, ReadFault, BadGrammar, WriteFault, Memory}
+use Rattle.lfg_model.specs.declared.status.Status.TheVariants.{Done, Usage, ReadFault, FileTooLong, BadGrammar, WriteFault, Memory}
 use Rattle.lfg_model.specs.Output.{Command, readings, AreSections, AreReadings, joined, sentences_of, AreAccepted, both_thin, ComesTo, to_grammar, to_sentences, IsOutput, all_read, IsPart, nothing, whole, IsCutPart, cut, IfReadFault}
 use Rattle.lfg_model.proofs.OutputLaws.{sections_of_output}
 use Rattle.xle_run.specs.Causes.{IsRefused, IsUnwritten}
@@ -24,6 +24,7 @@ module _ (T : Type 0) (files : Files) (g s text : List ℕ) (grammar : Grammar) 
   puts_readings before now (Err Done) h = tt
   puts_readings before now (Err Usage) h = tt
   puts_readings before now (Err (ReadFault name)) h = tt
+  puts_readings before now (Err (FileTooLong name)) h = tt
   puts_readings before now (Err (BadGrammar name fault)) h = tt
 
   -- the sections of the output are those that were to be put
@@ -43,6 +44,7 @@ taken T P (Err WriteFault) p = p
 taken T P (Err Done) p = tt
 taken T P (Err Usage) p = tt
 taken T P (Err (ReadFault name)) p = tt
+taken T P (Err (FileTooLong name)) p = tt
 taken T P (Err (BadGrammar name fault)) p = tt
 taken T P (Err Memory) p = tt
 
@@ -50,6 +52,7 @@ taken T P (Err Memory) p = tt
 pub at_refused : (P : Type 0) (s : Status) → P → IfRefused s P
 at_refused P Usage p = p
 at_refused P (ReadFault name) p = p
+at_refused P (FileTooLong name) p = p
 at_refused P (BadGrammar name fault) p = p
 at_refused P Done p = tt
 at_refused P WriteFault p = tt
@@ -64,6 +67,7 @@ module _ (T : Type 0) (file : List ℕ) (sure : List (List ℕ)) (before now : �
   refused_puts files c old new Done h e = tt
   refused_puts files c old new Usage h e = tt
   refused_puts files c old new (ReadFault name) h e = tt
+  refused_puts files c old new (FileTooLong name) h e = tt
   refused_puts files c old new (BadGrammar name fault) h e = tt
 
   pub refused_taken : (P : Type 0) (s : Status) → IsRefused file sure before now last s → IfTaken {T = T} (Err s) P
@@ -71,6 +75,7 @@ module _ (T : Type 0) (file : List ℕ) (sure : List (List ℕ)) (before now : �
   refused_taken P Done h = tt
   refused_taken P Usage h = tt
   refused_taken P (ReadFault name) h = tt
+  refused_taken P (FileTooLong name) h = tt
   refused_taken P (BadGrammar name fault) h = tt
   refused_taken P Memory h = tt
 
@@ -82,6 +87,7 @@ module _ (T : Type 0) (file : List ℕ) (sure : List (List ℕ)) (before now : �
   refused_reached P (ReadFault name) h p = subst P (sym h.0) p
   refused_reached P Done h p = tt
   refused_reached P Usage h p = tt
+  refused_reached P (FileTooLong name) h p = tt
   refused_reached P (BadGrammar name fault) h p = tt
   refused_reached P WriteFault h p = tt
   refused_reached P Memory h p = tt
@@ -91,6 +97,7 @@ pub unwritten_refused : (T : Type 0) (P : Type 0) (ob on : ℕ) (r : Result T St
 unwritten_refused T P ob on (Ok v) h = tt
 unwritten_refused T P ob on (Err Usage) h = absurd h
 unwritten_refused T P ob on (Err (ReadFault name)) h = absurd h
+unwritten_refused T P ob on (Err (FileTooLong name)) h = absurd h
 unwritten_refused T P ob on (Err (BadGrammar name fault)) h = absurd h
 unwritten_refused T P ob on (Err Done) h = tt
 unwritten_refused T P ob on (Err WriteFault) h = tt
@@ -101,6 +108,7 @@ unwritten_read T P ob on (Ok v) h = tt
 unwritten_read T P ob on (Err (ReadFault name)) h = absurd h
 unwritten_read T P ob on (Err Done) h = tt
 unwritten_read T P ob on (Err Usage) h = tt
+unwritten_read T P ob on (Err (FileTooLong name)) h = tt
 unwritten_read T P ob on (Err (BadGrammar name fault)) h = tt
 unwritten_read T P ob on (Err WriteFault) h = tt
 unwritten_read T P ob on (Err Memory) h = tt

@@ -4,15 +4,15 @@ use Rattle.std.specs.List.{Contains}
 use Rattle.lfg_io.specs.Counts.{Rose}
 use Rattle.lfg_model.specs.Lists.{In}
 use Rattle.lfg_model.specs.Output.{command_of, files_of}
-use Rattle.lfg_model.specs.declared.status.GrammarFault.TheVariants.{Entry}
 use Rattle.lfg_model.specs.declared.status.Status.{Status}
-use Rattle.lfg_model.specs.declared.status.Status.TheVariants.{Done, Usage, ReadFault, BadGrammar, WriteFault, Memory}
+use Rattle.lfg_model.specs.declared.status.Status.TheVariants.{Done, Usage, ReadFault, FileTooLong, BadGrammar, WriteFault, Memory}
 
 -- The status with which the file of this name was not taken: it could not be read, which the shelf
--- counted and never happens to a sure name; or it is not accepted; or there was no memory.
+-- counted and never happens to a sure name; or it is too long, or not accepted; or there was no memory.
 abbrev pub IsRefused : List ℕ → List (List ℕ) → ℕ → ℕ → List ℕ → Status → Type 0
 IsRefused file sure before now last (ReadFault name) = (name ≡ file) × (last ≡ name) × Rose before now × ¬ Contains sure name
-IsRefused file sure before now last (BadGrammar name fault) = (name ≡ file) × (fault ≡ Entry 0)
+IsRefused file sure before now last (FileTooLong name) = name ≡ file
+IsRefused file sure before now last (BadGrammar name fault) = name ≡ file
 IsRefused file sure before now last Memory = Unit {0}
 IsRefused file sure before now last Done = ⊥
 IsRefused file sure before now last Usage = ⊥
@@ -26,13 +26,15 @@ IsUnwritten before now Memory = Unit {0}
 IsUnwritten before now Done = ⊥
 IsUnwritten before now Usage = ⊥
 IsUnwritten before now (ReadFault name) = ⊥
+IsUnwritten before now (FileTooLong name) = ⊥
 IsUnwritten before now (BadGrammar name fault) = ⊥
 
 -- The status with which a command over files of these names failed: one of them was not taken, or
 -- the sections were not written.
 abbrev pub IsFailure : List (List ℕ) → List (List ℕ) → ℕ → ℕ → List ℕ → ℕ → ℕ → Status → Type 0
 IsFailure files sure before now last out_before out_now (ReadFault name) = In name files × (last ≡ name) × Rose before now × ¬ Contains sure name
-IsFailure files sure before now last out_before out_now (BadGrammar name fault) = In name files × (fault ≡ Entry 0)
+IsFailure files sure before now last out_before out_now (FileTooLong name) = In name files
+IsFailure files sure before now last out_before out_now (BadGrammar name fault) = In name files
 IsFailure files sure before now last out_before out_now WriteFault = Rose out_before out_now
 IsFailure files sure before now last out_before out_now Memory = Unit {0}
 IsFailure files sure before now last out_before out_now Done = ⊥
@@ -42,7 +44,8 @@ IsFailure files sure before now last out_before out_now Usage = ⊥
 abbrev pub IsRunFailure : List (List ℕ) → List (List ℕ) → ℕ → ℕ → List ℕ → ℕ → ℕ → Status → Type 0
 IsRunFailure words sure before now last out_before out_now Usage = command_of words ≡ None
 IsRunFailure words sure before now last out_before out_now (ReadFault name) = In name (files_of (command_of words)) × (last ≡ name) × Rose before now × ¬ Contains sure name
-IsRunFailure words sure before now last out_before out_now (BadGrammar name fault) = In name (files_of (command_of words)) × (fault ≡ Entry 0)
+IsRunFailure words sure before now last out_before out_now (FileTooLong name) = In name (files_of (command_of words))
+IsRunFailure words sure before now last out_before out_now (BadGrammar name fault) = In name (files_of (command_of words))
 IsRunFailure words sure before now last out_before out_now WriteFault = Rose out_before out_now
 IsRunFailure words sure before now last out_before out_now Memory = Unit {0}
 IsRunFailure words sure before now last out_before out_now Done = ⊥

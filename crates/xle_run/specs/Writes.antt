@@ -2,7 +2,7 @@
 use Rattle.std.specs.Prelude.{◌≡◌, ◌==◌, ℕ, ◌+◌, ◌≤◌, true, false, Option, Some, Result, Ok, Err, List, ◌++◌, length, take}
 use Rattle.lfg_terms.specs.declared.grammar.Grammar.{Grammar}
 use Rattle.lfg_model.specs.declared.status.Status.{Status}
-use Rattle.lfg_model.specs.declared.status.Status.TheVariants.{Done, Usage, ReadFault, BadGrammar, WriteFault, Memory}
+use Rattle.lfg_model.specs.declared.status.Status.TheVariants.{Done, Usage, ReadFault, FileTooLong, BadGrammar, WriteFault, Memory}
 use Rattle.lfg_model.specs.Lists.{In}
 use Rattle.lfg_model.specs.ThinText.{is_thin_line}
 use Rattle.lfg_model.specs.Output.{section, AreSections, AreReadings, WholeSections, CutSections, joined, Command, AreAccepted, IsOutput, IsPart, IsCutPart}
@@ -28,6 +28,7 @@ PutsSection g number line before now (Err Memory) = now ≡ Some before
 PutsSection g number line before now (Err Done) = ⊥
 PutsSection g number line before now (Err Usage) = ⊥
 PutsSection g number line before now (Err (ReadFault name)) = ⊥
+PutsSection g number line before now (Err (FileTooLong name)) = ⊥
 PutsSection g number line before now (Err (BadGrammar name fault)) = ⊥
 
 -- a section was put where the room had place for it; where it was not put for a fault, it had none
@@ -38,6 +39,7 @@ PutsWithin g number line before now (Err Memory) = Unit {0}
 PutsWithin g number line before now (Err Done) = Unit {0}
 PutsWithin g number line before now (Err Usage) = Unit {0}
 PutsWithin g number line before now (Err (ReadFault name)) = Unit {0}
+PutsWithin g number line before now (Err (FileTooLong name)) = Unit {0}
 PutsWithin g number line before now (Err (BadGrammar name fault)) = Unit {0}
 
 -- the sections of these sentences were put
@@ -54,6 +56,7 @@ PutsSections g sentences before now (Err Memory) = (bytes : List ℕ) × WholeSe
 PutsSections g sentences before now (Err Done) = ⊥
 PutsSections g sentences before now (Err Usage) = ⊥
 PutsSections g sentences before now (Err (ReadFault name)) = ⊥
+PutsSections g sentences before now (Err (FileTooLong name)) = ⊥
 PutsSections g sentences before now (Err (BadGrammar name fault)) = ⊥
 
 -- the room that is left once the sections of these sentences were put
@@ -79,12 +82,14 @@ Puts files c before now (Err Memory) = (bytes : List ℕ) × IsPart (file_in fil
 Puts files c before now (Err Done) = Unit {0}
 Puts files c before now (Err Usage) = Unit {0}
 Puts files c before now (Err (ReadFault name)) = Unit {0}
+Puts files c before now (Err (FileTooLong name)) = Unit {0}
 Puts files c before now (Err (BadGrammar name fault)) = Unit {0}
 
 -- where the status is that of words or of files that were not taken, what holds
 abbrev pub IfRefused : Status → Type 0 → Type 0
 IfRefused Usage P = P
 IfRefused (ReadFault name) P = P
+IfRefused (FileTooLong name) P = P
 IfRefused (BadGrammar name fault) P = P
 IfRefused Done P = Unit {0}
 IfRefused WriteFault P = Unit {0}
@@ -97,5 +102,16 @@ IfTaken (Err WriteFault) P = P
 IfTaken (Err Done) P = Unit {0}
 IfTaken (Err Usage) P = Unit {0}
 IfTaken (Err (ReadFault name)) P = Unit {0}
+IfTaken (Err (FileTooLong name)) P = Unit {0}
 IfTaken (Err (BadGrammar name fault)) P = Unit {0}
 IfTaken (Err Memory) P = Unit {0}
+
+-- where the status is that of a file that is too long or not accepted, what holds
+abbrev pub IfUnaccepted : Status → Type 0 → Type 0
+IfUnaccepted (FileTooLong name) P = P
+IfUnaccepted (BadGrammar name fault) P = P
+IfUnaccepted Done P = Unit {0}
+IfUnaccepted Usage P = Unit {0}
+IfUnaccepted (ReadFault name) P = Unit {0}
+IfUnaccepted WriteFault P = Unit {0}
+IfUnaccepted Memory P = Unit {0}

@@ -1,32 +1,47 @@
-ghost use Rattle.std.specs.Prelude.{◌≡◌, ℕ, List, Some, OnOk, IfOk, IfErr, take};
+ghost use Rattle.std.specs.Prelude.{◌≡◌, ◌<◌, ◌≤◌, ℕ, List, Some, OnOk, IfOk, IfErr, length};
 ghost use Rattle.std.specs.List.{Contains};
 ghost use Rattle.lfg_io.specs.Counts.{Rose};
 ghost use Rattle.lfg_io.specs.Shelf.{Files, file_in};
-ghost use Rattle.lfg_model.specs.Output.{IfBadGrammar};
+ghost use Rattle.lfg_model.specs.Output.{IfBadGrammar, IfTooLong, IsFaultOf};
 ghost use Rattle.lfg_model.specs.Thin.{IsThinGrammar};
 ghost use Rattle.xle_run.specs.Causes.{IsRefused};
-ghost use Rattle.xle_run.specs.Loads.{GivesGrammar, GivesNoGrammar};
+ghost use Rattle.xle_run.specs.Loads.{GivesGrammar, IsFile, IsLongFile, RefusesGrammar};
 
 use crate::thin::thin_grammar;
 use lfg_io::{Shelf, ShelfFault};
 use lfg_model::{GrammarFault, Status};
 use lfg_terms::{Grammar, Name};
-use std::alloc::Global;
+use std::alloc::{AllocError, Global};
 
-/// One byte more than the longest file that is accepted.
-const LIMIT: usize = 4_194_305;
+/// The most bytes of a file.
+const LIMIT: usize = 4_194_304;
 
-/// The first bytes of the file, up to the limit.
+/// The bytes of a file, if it may have so many.
+fn within_limit(bytes: Vec<u8>, name: Name) -> Result<Vec<u8>, Status>
+    ensures same { IfOk result (λ v. v.items ≡ bytes.items) }
+    ensures short { OnOk result (length bytes.items ≤ 4194304) }
+    ensures status { IfErr result (λ status. status ≡ Status.FileTooLong name) }
+    ensures long { IfErr result (λ status. 4194304 < length bytes.items) }
+{
+    if bytes.len() > LIMIT {
+        return Err(Status::FileTooLong { name });
+    }
+    Ok(bytes)
+}
+
+/// The bytes of the file.
 ///
 /// # Errors
 ///
-/// The status of a file that could not be read, or of want of memory.
+/// The status of a file that could not be read or is too long, or of want of memory.
 pub(crate) fn load_file<F: Shelf>(
     alloc: Global,
     shelf: &mut F,
     name: &str,
 ) -> Result<Vec<u8>, Status>
-    ensures loaded { (files : Files) → F.files shelf.old ≡ Some files → IfOk result (λ v. (bytes : List ℕ) × (file_in files name.now ≡ Some bytes) × (v.items ≡ take 4194305 bytes)) }
+    ensures loaded { (files : Files) → F.files shelf.old ≡ Some files → IfOk result (λ v. IsFile files name.now v.items) }
+    ensures long { (files : Files) → F.files shelf.old ≡ Some files → IfErr result (λ status. IfTooLong status (λ other. IsLongFile files name.now)) }
+    ensures short { IfOk result (λ v. length v.items ≤ 4194304) }
     ensures refused { IfErr result (IsRefused name.now (F.sure shelf.old) (F.faults shelf.old) (F.faults shelf.new) (F.last_failed shelf.new)) }
     ensures not_bad { IfErr result (λ status. IfBadGrammar status (λ name fault. ⊥)) }
     ensures faults_kept { OnOk result (F.faults shelf.new ≡ F.faults shelf.old) }
@@ -37,22 +52,43 @@ pub(crate) fn load_file<F: Shelf>(
         return Err(Status::Memory);
     };
     let mut bytes = Vec::new(alloc);
-    match shelf.load(alloc, name, LIMIT, &mut bytes) {
-        Ok(()) => Ok(bytes),
+    match shelf.load(alloc, name, LIMIT + 1, &mut bytes) {
+        Ok(()) => within_limit(bytes, refused),
         Err(ShelfFault::Memory) => Err(Status::Memory),
         Err(ShelfFault::Failed) => Err(Status::ReadFault { name: refused }),
     }
 }
 
-/// The status of a file that is not accepted.
-pub(crate) fn not_thin(alloc: Global, name: &str) -> Status
-    ensures { (sure : List (List ℕ)) (before now : ℕ) (last : List ℕ) → IsRefused name.now sure before now last result }
+/// The status of a file with this fault.
+pub(crate) fn bad_file(alloc: Global, name: &str, fault: GrammarFault) -> Status
+    ensures fault { IfBadGrammar result (λ other why. why ≡ fault) }
+    ensures not_long { IfTooLong result (λ other. ⊥) }
+    ensures refused { (sure : List (List ℕ)) (before now : ℕ) (last : List ℕ) → IsRefused name.now sure before now last result }
 {
     match Name::new(alloc, name) {
-        Ok(name) => Status::BadGrammar {
-            name,
-            fault: GrammarFault::Entry { number: 0 },
-        },
+        Ok(name) => Status::BadGrammar { name, fault },
+        Err(_) => Status::Memory,
+    }
+}
+
+/// Why a file that is not thin is not accepted.
+fn grammar_fault(alloc: Global, bytes: &[u8]) -> Result<GrammarFault, AllocError>
+    requires { length bytes.now ≤ 4194304 }
+    ensures { IfOk result (IsFaultOf bytes.now) }
+{
+    let _name = Name::new(alloc, "")?;
+    Ok(GrammarFault::Entry { number: 0 })
+}
+
+/// The status of a grammar file that is not thin.
+fn not_thin(alloc: Global, name: &str, bytes: &[u8]) -> Status
+    requires { length bytes.now ≤ 4194304 }
+    ensures fault { IfBadGrammar result (λ other fault. IsFaultOf bytes.now fault) }
+    ensures not_long { IfTooLong result (λ other. ⊥) }
+    ensures refused { (sure : List (List ℕ)) (before now : ℕ) (last : List ℕ) → IsRefused name.now sure before now last result }
+{
+    match grammar_fault(alloc, bytes) {
+        Ok(fault) => bad_file(alloc, name, fault),
         Err(_) => Status::Memory,
     }
 }
@@ -61,7 +97,8 @@ pub(crate) fn not_thin(alloc: Global, name: &str) -> Status
 ///
 /// # Errors
 ///
-/// The status of a file that could not be read or is not thin, or of want of memory.
+/// The status of a file that could not be read, is too long or is not accepted, or of want of
+/// memory.
 pub(crate) fn load_grammar<F: Shelf>(
     alloc: Global,
     shelf: &mut F,
@@ -69,7 +106,7 @@ pub(crate) fn load_grammar<F: Shelf>(
 ) -> Result<Grammar, Status>
     ensures loaded { (files : Files) → F.files shelf.old ≡ Some files → IfOk result (GivesGrammar files name.now) }
     ensures thin { IfOk result IsThinGrammar }
-    ensures not_thin { (files : Files) → F.files shelf.old ≡ Some files → IfErr result (λ status. IfBadGrammar status (λ other fault. GivesNoGrammar files name.now)) }
+    ensures refuses { (files : Files) → F.files shelf.old ≡ Some files → IfErr result (RefusesGrammar files name.now) }
     ensures refused { IfErr result (IsRefused name.now (F.sure shelf.old) (F.faults shelf.old) (F.faults shelf.new) (F.last_failed shelf.new)) }
     ensures faults_kept { OnOk result (F.faults shelf.new ≡ F.faults shelf.old) }
     ensures files_kept { F.files shelf.new ≡ F.files shelf.old }
@@ -81,7 +118,7 @@ pub(crate) fn load_grammar<F: Shelf>(
     };
     match thin_grammar(alloc, &bytes) {
         Ok(Some(grammar)) => Ok(grammar),
-        Ok(None) => Err(not_thin(alloc, name)),
+        Ok(None) => Err(not_thin(alloc, name, &bytes)),
         Err(_) => Err(Status::Memory),
     }
 }

@@ -1,16 +1,16 @@
 ghost use Rattle.std.specs.Prelude.{◌≡◌, ◌≢◌, ◌≤◌, ◌∷◌, [], ℕ, List, Some, IfErr, length};
 ghost use Rattle.lfg_io.specs.Shelf.{Files, file_in};
-ghost use Rattle.lfg_model.specs.Output.{readings, joined, AreAccepted, ComesTo, IfBadGrammar, IfReadFault, IsOutput};
+ghost use Rattle.lfg_model.specs.Output.{readings, joined, AreAccepted, ComesTo, IfReadFault, IsOutput};
 ghost use Rattle.lfg_model.specs.Thin.{IsThinGrammar};
 ghost use Rattle.xle_run.specs.Causes.{IsFailure};
 ghost use Rattle.xle_run.specs.Loads.{GivesGrammar};
-ghost use Rattle.xle_run.specs.Writes.{IfRefused, IfTaken, Puts};
+ghost use Rattle.xle_run.specs.Writes.{IfRefused, IfTaken, IfUnaccepted, Puts};
 
-use crate::loads::{load_file, load_grammar, not_thin};
+use crate::loads::{bad_file, load_file, load_grammar};
 use crate::sections::write_text;
 use crate::thin::thin_text;
 use lfg_io::{Shelf, Sink};
-use lfg_model::Status;
+use lfg_model::{GrammarFault, Status};
 use lfg_terms::Grammar;
 use std::alloc::Global;
 
@@ -29,7 +29,7 @@ pub(crate) fn readings<F: Shelf, O: Sink>(
     ensures failed { IfErr result (IsFailure (grammar.now ∷ sentences.now ∷ []) (F.sure shelf.old) (F.faults shelf.old) (F.faults shelf.new) (F.last_failed shelf.new) (O.faults out.old) (O.faults out.new)) }
     ensures files_kept { F.files shelf.new ≡ F.files shelf.old }
     ensures untouched { IfErr result (λ status. IfRefused status (out.new ≡ out.old)) }
-    ensures refused { (files : Files) → F.files shelf.old ≡ Some files → IfErr result (λ status. IfBadGrammar status (λ name fault. IsOutput (file_in files) (Some (readings grammar.now sentences.now)) [] status)) }
+    ensures refused { (files : Files) → F.files shelf.old ≡ Some files → IfErr result (λ status. IfUnaccepted status (IsOutput (file_in files) (Some (readings grammar.now sentences.now)) [] status)) }
     ensures reached { (files : Files) → F.files shelf.old ≡ Some files → IfErr result (λ status. IfReadFault status (ComesTo (file_in files) (Some (readings grammar.now sentences.now)))) }
     ensures accepted { (files : Files) → F.files shelf.old ≡ Some files → IfTaken result (AreAccepted (file_in files) (Some (readings grammar.now sentences.now))) }
     ensures written { (files : Files) (before : List ℕ) → F.files shelf.old ≡ Some files → O.written out.old ≡ Some before
@@ -55,7 +55,7 @@ fn readings_by<F: Shelf, O: Sink>(
     ensures failed { IfErr result (IsFailure (sentences.now ∷ []) (F.sure shelf.old) (F.faults shelf.old) (F.faults shelf.new) (F.last_failed shelf.new) (O.faults out.old) (O.faults out.new)) }
     ensures files_kept { F.files shelf.new ≡ F.files shelf.old }
     ensures untouched { IfErr result (λ status. IfRefused status (out.new ≡ out.old)) }
-    ensures refused { (files : Files) (name : List ℕ) → F.files shelf.old ≡ Some files → GivesGrammar files name grammar.now → IfErr result (λ status. IfBadGrammar status (λ other fault. IsOutput (file_in files) (Some (readings name sentences.now)) [] status)) }
+    ensures refused { (files : Files) (name : List ℕ) → F.files shelf.old ≡ Some files → GivesGrammar files name grammar.now → IfErr result (λ status. IfUnaccepted status (IsOutput (file_in files) (Some (readings name sentences.now)) [] status)) }
     ensures reached { (files : Files) (name : List ℕ) → F.files shelf.old ≡ Some files → GivesGrammar files name grammar.now → IfErr result (λ status. IfReadFault status (ComesTo (file_in files) (Some (readings name sentences.now)))) }
     ensures accepted { (files : Files) (name : List ℕ) → F.files shelf.old ≡ Some files → GivesGrammar files name grammar.now
         → IfTaken result (AreAccepted (file_in files) (Some (readings name sentences.now))) }
@@ -70,6 +70,10 @@ fn readings_by<F: Shelf, O: Sink>(
     };
     match thin_text(&bytes) {
         Some(text) => write_text(alloc, out, grammar, text),
-        None => Err(not_thin(alloc, sentences)),
+        None => Err(bad_file(
+            alloc,
+            sentences,
+            GrammarFault::Entry { number: 0 },
+        )),
     }
 }

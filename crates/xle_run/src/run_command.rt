@@ -2,16 +2,16 @@ ghost use Rattle.std.specs.Prelude.{◌≡◌, ◌≢◌, ◌↔◌, ◌⊎◌, 
 ghost use Rattle.std.specs.List.{Contains};
 ghost use Rattle.lfg_io.specs.Counts.{Rose};
 ghost use Rattle.lfg_io.specs.Sink.{Appends, AppendsPrefix};
-ghost use Rattle.lfg_model.specs.Output.{command_of, joined, AreAccepted, ComesTo, IfReadFault, IfBadGrammar, IsFileOf, IsOutput, IsPart, IsCutPart, exit_status, fault_line};
+ghost use Rattle.lfg_model.specs.Output.{command_of, joined, AreAccepted, ComesTo, IfReadFault, IfTooLong, IfBadGrammar, IsFileOf, IsOutput, IsPart, IsCutPart, exit_status, fault_line};
 ghost use Rattle.lfg_io.specs.Shelf.{Files, file_in};
-ghost use Rattle.xle_run.specs.Writes.{IfRefused, IfTaken, Puts};
+ghost use Rattle.xle_run.specs.Writes.{IfRefused, IfTaken, IfUnaccepted, Puts};
 ghost use Rattle.xle_run.specs.Causes.{IsRunFailure};
 
 use crate::command::command_of;
 use crate::readings::readings;
 use crate::report::put_fault_line;
 use lfg_io::{Shelf, Sink};
-use lfg_model::{GrammarFault, Status};
+use lfg_model::Status;
 use std::alloc::Global;
 
 /// Runs the command that the words of the command line say: loads its files from the shelf, puts a
@@ -38,9 +38,11 @@ pub fn run<F: Shelf, O: Sink, E: Sink>(
         → IfReadFault result (ComesTo (file_in files) (command_of (map string_bytes words.now))) }
     ensures files_kept { F.files shelf.new ≡ F.files shelf.old }
 
-    // A file is not accepted: it is one of the command's.
+    // A file is too long, or not accepted: it is one of the command's, and that is the output.
+    ensures long_file { IfTooLong result (IsFileOf (map string_bytes words.now)) }
+    ensures too_long { (files : Files) → F.files shelf.old ≡ Some files
+        → IfTooLong result (λ name. IsOutput (file_in files) (command_of (map string_bytes words.now)) [] result) }
     ensures bad_file { IfBadGrammar result (λ name fault. IsFileOf (map string_bytes words.now) name) }
-    ensures bad_fault { IfBadGrammar result (λ name fault. fault ≡ GrammarFault.Entry 0) }
     ensures not_accepted { (files : Files) → F.files shelf.old ≡ Some files
         → IfBadGrammar result (λ name fault. IsOutput (file_in files) (command_of (map string_bytes words.now)) [] result) }
     ensures accepted { (files : Files) → F.files shelf.old ≡ Some files → (result ≡ Status.Done) ⊎ (result ≡ Status.WriteFault)
@@ -89,7 +91,7 @@ fn carry_out<F: Shelf, O: Sink>(
     out: &mut O,
 ) -> Result<(), Status>
     ensures untouched { IfErr result (λ status. IfRefused status (out.new ≡ out.old)) }
-    ensures refused { (files : Files) → F.files shelf.old ≡ Some files → IfErr result (λ status. IfBadGrammar status (λ name fault. IsOutput (file_in files) (command_of (map string_bytes words.now)) [] status)) }
+    ensures refused { (files : Files) → F.files shelf.old ≡ Some files → IfErr result (λ status. IfUnaccepted status (IsOutput (file_in files) (command_of (map string_bytes words.now)) [] status)) }
     ensures reached { (files : Files) → F.files shelf.old ≡ Some files → IfErr result (λ status. IfReadFault status (ComesTo (file_in files) (command_of (map string_bytes words.now)))) }
     ensures accepted { (files : Files) → F.files shelf.old ≡ Some files → IfTaken result (AreAccepted (file_in files) (command_of (map string_bytes words.now))) }
     ensures written { (files : Files) (before : List ℕ) → F.files shelf.old ≡ Some files → O.written out.old ≡ Some before
@@ -114,6 +116,7 @@ pub fn exit_status(status: &Status) -> u8
         Status::Done => 0,
         Status::Usage => 2,
         Status::ReadFault { .. } => 3,
+        Status::FileTooLong { .. } => 4,
         Status::BadGrammar { .. } => 5,
         Status::WriteFault => 11,
         Status::Memory => 12,

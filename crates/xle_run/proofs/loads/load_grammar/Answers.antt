@@ -1,30 +1,32 @@
-use Rattle.std.proofs.Common.{◌≡◌, ℕ, ◌<◌, List, None, Some, sym, subst, ◌∙◌, lit<}
-use Rattle.std.specs.Prelude.{MatchOption, take}
+use Rattle.std.proofs.Common.{◌≡◌, ℕ, List, None, Some, ◌≤◌, length, ap, subst, sym, ◌∙◌}
 use Rattle.lfg_terms.specs.declared.grammar.Grammar.{Grammar}
-use Rattle.lfg_model.specs.Output.{IfBadGrammar}
-use Rattle.lfg_model.specs.declared.status.Status.{Status}
-use Rattle.lfg_model.specs.declared.status.Status.TheVariants.{Done, Usage, ReadFault, BadGrammar, WriteFault, Memory}
 use Rattle.lfg_model.specs.ThinText.{ThinFile}
 use Rattle.lfg_model.proofs.ThinLaws.{thin_file_is_thin}
-use Rattle.xle_run.proofs.LoadLaws.{gives_grammar, gives_no_grammar, at_bad_grammar}
+use Rattle.xle_run.specs.Loads.{IsFile}
+use Rattle.xle_run.proofs.LoadLaws.{refuses_long, refuses_grammar}
 use Rattle.xle_run.proofs.loads.load_grammar.Goals as goal
 
 pub returns-in-Ok-Some-clause-loaded : goal.returns-in-Ok-Some-clause-loaded
 returns-in-Ok-Some-clause-loaded g c files told =
     let file = c.in-Ok.ensures.loaded files told in
     let thin : ThinFile c.deref.result.now c.in-Ok-Some.grammar = rw c.in-Ok-Some.field-0-is at c.in-Ok-Some.ensures in
-    gives_grammar 4194305 files c.args.name.now file.0 c.deref.result.now file.1 (c.deref.ensures.value ∙ file.2) c.in-Ok-Some.grammar (lit< tt) thin
+    record { bytes = c.deref.result.now; there = file.there ∙ ap Some (sym c.deref.ensures.value); thin = thin }
 
 pub returns-in-Ok-Some-clause-thin : goal.returns-in-Ok-Some-clause-thin
 returns-in-Ok-Some-clause-thin g c =
     let thin : ThinFile c.deref.result.now c.in-Ok-Some.grammar = rw c.in-Ok-Some.field-0-is at c.in-Ok-Some.ensures in
     thin_file_is_thin c.deref.result.now c.in-Ok-Some.grammar thin
 
-pub returns-in-Ok-None-clause-not_thin : goal.returns-in-Ok-None-clause-not_thin
-returns-in-Ok-None-clause-not_thin g c files told =
-    let file = c.in-Ok.ensures.loaded files told in
+pub returns-in-Err-clause-refuses : goal.returns-in-Err-clause-refuses
+returns-in-Err-clause-refuses g c files told = refuses_long files c.args.name.now c.in-Err.status (c.in-Err.ensures.long files told) c.in-Err.ensures.not_bad
+
+pub returns-in-Ok-None-clause-refuses : goal.returns-in-Ok-None-clause-refuses
+returns-in-Ok-None-clause-refuses g c files told =
+    let file = subst (λ (bs : List ℕ). IsFile files c.args.name.now bs) (sym c.deref-in-Ok-None.ensures.value) (c.in-Ok.ensures.loaded files told) in
     let none : (h : Grammar) → ¬ ThinFile c.deref.result.now h = rw c.in-Ok-None.field-0-is at c.in-Ok-None.ensures in
-    at_bad_grammar c.not_thin.result (gives_no_grammar 4194305 files c.args.name.now file.0 c.deref.result.now file.1 (c.deref.ensures.value ∙ file.2) (lit< tt) none)
+    let same : c.deref.result.now ≡ c.deref-in-Ok-None.result.now = c.deref.ensures.value ∙ sym c.deref-in-Ok-None.ensures.value in
+    let no = subst (λ (bs : List ℕ). (h : Grammar) → ¬ ThinFile bs h) same none in
+    refuses_grammar files c.args.name.now c.deref-in-Ok-None.result.now c.not_thin.result file no c.not_thin.ensures.fault c.not_thin.ensures.not_long
 
 pub returns-in-Ok-None-clause-refused : goal.returns-in-Ok-None-clause-refused
-returns-in-Ok-None-clause-refused g c = c.not_thin.ensures _ _ _ _
+returns-in-Ok-None-clause-refused g c = c.not_thin.ensures.refused _ _ _ _

@@ -15,7 +15,7 @@ returns-in-Err-clause-failed g c =
 pub returns-in-Err-clause-refused : goal.returns-in-Err-clause-refused
 returns-in-Err-clause-refused g c files told =
     no_grammar_output files c.args.grammar.now c.args.sentences.now (g.F.Shelf.sure c.args.shelf.now) (g.F.Shelf.faults c.args.shelf.now)
-    (g.F.Shelf.faults c.load_grammar.new.shelf) (g.F.Shelf.last_failed c.load_grammar.new.shelf) c.in-Err.status c.in-Err.ensures.refused (c.in-Err.ensures.not_thin files told)
+    (g.F.Shelf.faults c.load_grammar.new.shelf) (g.F.Shelf.last_failed c.load_grammar.new.shelf) c.in-Err.status c.in-Err.ensures.refused (c.in-Err.ensures.refuses files told)
 
 pub returns-in-Ok-clause-failed : goal.returns-in-Ok-clause-failed
 returns-in-Ok-clause-failed g c =

@@ -2,8 +2,8 @@ use Rattle.std.proofs.Common.{◌≡◌, Option, Some, None, [], map, sym, subst
 use Rattle.std.specs.Prelude.{string_bytes, IfErr}
 use Rattle.lfg_io.specs.Shelf.{file_in}
 use Rattle.lfg_model.specs.declared.status.Status.TheVariants.{Done}
-use Rattle.lfg_model.specs.Output.{Command, command_of, readings, AreAccepted, ComesTo, IfBadGrammar, IfReadFault, IsOutput}
-use Rattle.xle_run.specs.Writes.{IfTaken, Puts}
+use Rattle.lfg_model.specs.Output.{Command, command_of, readings, AreAccepted, ComesTo, IfReadFault, IsOutput}
+use Rattle.xle_run.specs.Writes.{IfTaken, IfUnaccepted, Puts}
 use Rattle.xle_run.specs.Commands.{command_view}
 use Rattle.xle_run.proofs.CommandLaws.{failed_commands}
 use Rattle.xle_run.proofs.run_command.carry_out.Goals as goal
@@ -20,7 +20,7 @@ returns-in-Some-clause-usage g c none =
 
 pub returns-in-Some-clause-refused : goal.returns-in-Some-clause-refused
 returns-in-Some-clause-refused g c files told =
-    subst (λ o. IfErr c.readings.result (λ status. IfBadGrammar status (λ name fault. IsOutput (file_in files) o [] status))) (sym c.in-Some.ensures) (c.readings.ensures.refused files told)
+    subst (λ (o : Option Command). IfErr c.readings.result (λ status. IfUnaccepted status (IsOutput (file_in files) o [] status))) (sym c.in-Some.ensures) (c.readings.ensures.refused files told)
 
 pub returns-in-Some-clause-reached : goal.returns-in-Some-clause-reached
 returns-in-Some-clause-reached g c files told =

@@ -5,11 +5,10 @@ use Rattle.lfg_io.specs.Counts.{Rose}
 use Rattle.lfg_io.specs.Sink.{Appends, AppendsPrefix}
 use Rattle.lfg_io.specs.declared.sink.SinkFault.{SinkFault}
 use Rattle.lfg_io.specs.Shelf.{file_in}
-use Rattle.lfg_model.specs.Output.{command_of, AreAccepted, IsFileOf, fault_line}
-use Rattle.lfg_model.specs.declared.status.GrammarFault.TheVariants.{Entry}
-use Rattle.xle_run.proofs.CauseLaws.{at_read, at_bad, at_usage, at_write, never_done}
+use Rattle.lfg_model.specs.Output.{command_of, AreAccepted, IsFileOf, IsOutput, fault_line}
+use Rattle.xle_run.proofs.CauseLaws.{at_read, at_long, at_bad, at_usage, at_write, never_done}
 use Rattle.xle_run.proofs.CommandLaws.{told_by}
-use Rattle.xle_run.proofs.RunLaws.{taken_at, from_refused, puts_memory, puts_cut, complete_at}
+use Rattle.xle_run.proofs.RunLaws.{taken_at, from_refused, puts_memory, puts_cut, complete_at, long_output, bad_output}
 use Rattle.xle_run.proofs.run_command.run.Goals as goal
 
 pub returns-in-Ok-clause-usage : goal.returns-in-Ok-clause-usage
@@ -45,12 +44,12 @@ returns-in-Err-clause-never_sure g c =
 pub returns-in-Err-clause-bad_file : goal.returns-in-Err-clause-bad_file
 returns-in-Err-clause-bad_file g c =
     at_bad (map string_bytes c.args.words.now) (g.F.Shelf.sure c.args.shelf.now) (g.F.Shelf.faults c.args.shelf.now) (g.F.Shelf.faults c.carry_out.new.shelf) (g.F.Shelf.last_failed c.carry_out.new.shelf)
-    (g.O.Sink.faults c.args.out.now) (g.O.Sink.faults c.carry_out.new.out) (λ name fault. IsFileOf (map string_bytes c.args.words.now) name) c.in-Err.status c.in-Err.ensures.failed (λ name fault h. h.0)
+    (g.O.Sink.faults c.args.out.now) (g.O.Sink.faults c.carry_out.new.out) (λ name fault. IsFileOf (map string_bytes c.args.words.now) name) c.in-Err.status c.in-Err.ensures.failed (λ name fault h. h)
 
-pub returns-in-Err-clause-bad_fault : goal.returns-in-Err-clause-bad_fault
-returns-in-Err-clause-bad_fault g c =
-    at_bad (map string_bytes c.args.words.now) (g.F.Shelf.sure c.args.shelf.now) (g.F.Shelf.faults c.args.shelf.now) (g.F.Shelf.faults c.carry_out.new.shelf) (g.F.Shelf.last_failed c.carry_out.new.shelf)
-    (g.O.Sink.faults c.args.out.now) (g.O.Sink.faults c.carry_out.new.out) (λ name fault. fault ≡ Entry 0) c.in-Err.status c.in-Err.ensures.failed (λ name fault h. h.1)
+pub returns-in-Err-clause-long_file : goal.returns-in-Err-clause-long_file
+returns-in-Err-clause-long_file g c =
+    at_long (map string_bytes c.args.words.now) (g.F.Shelf.sure c.args.shelf.now) (g.F.Shelf.faults c.args.shelf.now) (g.F.Shelf.faults c.carry_out.new.shelf) (g.F.Shelf.last_failed c.carry_out.new.shelf)
+    (g.O.Sink.faults c.args.out.now) (g.O.Sink.faults c.carry_out.new.out) (IsFileOf (map string_bytes c.args.words.now)) c.in-Err.status c.in-Err.ensures.failed (λ name h. h)
 
 pub returns-in-Err-clause-write_fault : goal.returns-in-Err-clause-write_fault
 returns-in-Err-clause-write_fault g c =
@@ -81,8 +80,13 @@ returns-in-Err-clause-accepted g c files told at = elim at [
   | inr e ↦ taken_at c.in-Err.status (AreAccepted (file_in files) (command_of (map string_bytes c.args.words.now))) (c.in-Err.ensures.accepted files told) e
 ]
 
+pub returns-in-Err-clause-too_long : goal.returns-in-Err-clause-too_long
+returns-in-Err-clause-too_long g c files told =
+    long_output (λ s. IsOutput (file_in files) (command_of (map string_bytes c.args.words.now)) [] s) c.in-Err.status (c.in-Err.ensures.refused files told)
+
 pub returns-in-Err-clause-not_accepted : goal.returns-in-Err-clause-not_accepted
-returns-in-Err-clause-not_accepted g c files told = c.in-Err.ensures.refused files told
+returns-in-Err-clause-not_accepted g c files told =
+    bad_output (λ s. IsOutput (file_in files) (command_of (map string_bytes c.args.words.now)) [] s) c.in-Err.status (c.in-Err.ensures.refused files told)
 
 pub returns-in-Err-clause-reached : goal.returns-in-Err-clause-reached
 returns-in-Err-clause-reached g c files told = c.in-Err.ensures.reached files told
