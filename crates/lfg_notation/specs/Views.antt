@@ -1,12 +1,17 @@
 -- What the program holds, as the definitions have it.
-use Rattle.std.specs.Prelude.{List, Vec}
+use Rattle.std.specs.Prelude.{List, Vec, map}
 use Rattle.std.specs.Global.{Global}
+use Rattle.lfg_terms.specs.declared.draft.LexEntry.{LexEntry}
+use Rattle.lfg_terms.specs.declared.draft.Rhs.{Rhs}
 use Rattle.lfg_terms.specs.declared.grammar.Schema.{Schema}
 use Rattle.lfg_terms.specs.declared.path_expr.PathExpr.{PathExpr}
 use Rattle.lfg_model.specs.declared.lexeme.Lexeme.{Lexeme}
-use Rattle.lfg_model.specs.RightSides.{DraftAnnotation, draft_annotation_of, draft_des_of}
+use Rattle.lfg_model.specs.RightSides.{DraftAnnotation, draft_annotation_of, draft_des_of, DraftSchema, draft_schema_of, RightSide, right_side_of}
+use Rattle.lfg_model.specs.DraftForms.{WordForm, word_form}
+use Rattle.lfg_model.specs.EntryNotation.{Piece}
 use Rattle.lfg_model.specs.SchemaNotation.{Left}
 use Rattle.lfg_model.specs.Terms.{Name}
+use Rattle.lfg_notation.specs.declared.cutting.Cut.{Cut}
 use Rattle.lfg_notation.specs.declared.designators.Left.{Left as Begun}
 
 -- what a schema begins with
@@ -20,3 +25,19 @@ named names rest = (names, rest)
 -- a branch of a disjunction
 abbrev pub branch_of : Vec (Schema PathExpr) Global → DraftAnnotation
 branch_of b = draft_annotation_of b.items
+
+-- terms, and what is behind them
+abbrev pub sides_before : Vec Rhs Global → List Lexeme → List RightSide × List Lexeme
+sides_before parts rest = (map right_side_of parts.items, rest)
+
+-- schemata, and what is behind them
+abbrev pub schemata_before : Vec (Schema PathExpr) Global → List Lexeme → List DraftSchema × List Lexeme
+schemata_before parts rest = (map draft_schema_of parts.items, rest)
+
+-- a piece that was cut off
+abbrev pub piece_of : Cut → Piece
+piece_of c = record { lexemes = c.lexemes.now; is_ended = c.is_ended }
+
+-- the readings of a word
+abbrev pub words_form : Vec LexEntry Global → List WordForm
+words_form v = map word_form v.items

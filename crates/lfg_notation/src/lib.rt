@@ -1,11 +1,17 @@
 //! Reads grammar files: settings, rules, templates and words of a grammar, as they are written.
 #![tactic(auto)]
 
+mod cutting;
 mod designators;
 mod fault;
 mod forms;
+mod lexemes;
 mod paths;
 mod reading;
 mod right_sides;
+mod rules;
 mod schemata;
+mod settings;
+mod templates;
 mod values;
+mod words;
