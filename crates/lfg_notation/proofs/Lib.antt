@@ -1,2 +1,3 @@
 pub mod PieceLaws
 pub mod Refusals
+pub mod SectionLaws

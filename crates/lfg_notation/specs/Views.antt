@@ -1,5 +1,5 @@
 -- What the program holds, as the definitions have it.
-use Rattle.std.specs.Prelude.{List, Vec, map}
+use Rattle.std.specs.Prelude.{ℕ, ◌+◌, List, [], ◌∷◌, Vec, length, map}
 use Rattle.std.specs.Global.{Global}
 use Rattle.lfg_terms.specs.declared.draft.LexEntry.{LexEntry}
 use Rattle.lfg_terms.specs.declared.draft.Rhs.{Rhs}
@@ -7,12 +7,15 @@ use Rattle.lfg_terms.specs.declared.grammar.Schema.{Schema}
 use Rattle.lfg_terms.specs.declared.path_expr.PathExpr.{PathExpr}
 use Rattle.lfg_model.specs.declared.lexeme.Lexeme.{Lexeme}
 use Rattle.lfg_model.specs.RightSides.{DraftAnnotation, draft_annotation_of, draft_des_of, DraftSchema, draft_schema_of, RightSide, right_side_of}
-use Rattle.lfg_model.specs.DraftForms.{WordForm, word_form}
+use Rattle.lfg_model.specs.DraftForms.{DraftForm, rule_form, template_form, WordForm, word_form}
+use Rattle.lfg_model.specs.Drafts.{Numbered, Section}
 use Rattle.lfg_model.specs.EntryNotation.{Piece}
 use Rattle.lfg_model.specs.SchemaNotation.{Left}
 use Rattle.lfg_model.specs.Terms.{Name}
 use Rattle.lfg_notation.specs.declared.cutting.Cut.{Cut}
 use Rattle.lfg_notation.specs.declared.designators.Left.{Left as Begun}
+use Rattle.lfg_notation.specs.declared.entries.Parts.{Parts}
+use Rattle.lfg_notation.specs.declared.sections.Section.{Section as Found}
 
 -- what a schema begins with
 abbrev pub left_of : Begun → Left
@@ -41,3 +44,20 @@ piece_of c = record { lexemes = c.lexemes.now; is_ended = c.is_ended }
 -- the readings of a word
 abbrev pub words_form : Vec LexEntry Global → List WordForm
 words_form v = map word_form v.items
+
+-- the parts of a draft
+abbrev pub parts_form : Parts → DraftForm
+parts_form p = record { settings = p.settings.items; rules = map rule_form p.rules.items; templates = map template_form p.templates.items; words = map word_form p.words.items }
+
+-- the parts of a draft, and the number of the next entry
+abbrev pub numbered : ℕ → Parts → Numbered
+numbered n p = record { number = n; draft = parts_form p }
+
+-- a section
+abbrev pub section_form : Found → Section
+section_form s = record { kind = s.kind; entries = s.entries.now }
+
+-- how many lexemes stand behind the headings of the sections
+abbrev pub sections_size : List Found → ℕ
+sections_size [] = 0
+sections_size (s ∷ ss) = length s.entries.now + sections_size ss

@@ -3,6 +3,8 @@
 
 mod cutting;
 mod designators;
+mod draft;
+mod entries;
 mod fault;
 mod forms;
 mod lexemes;
@@ -11,6 +13,7 @@ mod reading;
 mod right_sides;
 mod rules;
 mod schemata;
+mod sections;
 mod settings;
 mod templates;
 mod values;
