@@ -3,7 +3,7 @@ use Rattle.std.specs.Prelude.{◌≡◌, ℕ, Result, Ok, Err, List, Vec, map}
 use Rattle.std.specs.Global.{Global}
 use Rattle.lfg_terms.specs.declared.draft.Draft.{Draft}
 use Rattle.lfg_model.specs.DraftForms.{DraftForm, draft_form}
-use Rattle.lfg_model.specs.Drafts.{Section, Numbered, Drafts, FileFault, not_utf8, no_token, no_lexemes, bad_section, bad_entry, HasFault}
+use Rattle.lfg_model.specs.Drafts.{Section, Numbered, Drafts, LexemesFault, not_utf8, no_token, no_lexemes, bad_section, bad_entry, HasFault}
 use Rattle.lfg_notation.specs.declared.entries.Parts.{Parts}
 use Rattle.lfg_notation.specs.declared.fault.DraftFault.{DraftFault}
 use Rattle.lfg_notation.specs.declared.fault.DraftFault.TheVariants as fault
@@ -47,6 +47,18 @@ ReadsParts (Err f) said = TellsEntry f said
 abbrev pub ReadsSections : Result (Vec Found Global) DraftFault → Result (List Section) ℕ → Type 0
 ReadsSections (Ok v) said = said ≡ Ok (map section_form v.items)
 ReadsSections (Err f) said = TellsSection f said
+
+-- the answer is what the lexemes of a file say
+abbrev pub TellsLexemes : DraftFault → Result DraftForm LexemesFault → Type 0
+TellsLexemes (fault.NotUtf8 at) said = ⊥
+TellsLexemes (fault.NoToken at) said = ⊥
+TellsLexemes (fault.Section n) said = said ≡ Err (bad_section n)
+TellsLexemes (fault.Entry n) said = said ≡ Err (bad_entry n)
+TellsLexemes fault.Memory said = Unit {0}
+
+abbrev pub ReadsLexemes : Result Draft DraftFault → Result DraftForm LexemesFault → Type 0
+ReadsLexemes (Ok d) said = said ≡ Ok (draft_form d)
+ReadsLexemes (Err f) said = TellsLexemes f said
 
 -- the fault of the program as the definitions have it; want of memory is none of a file
 abbrev pub Tells : List ℕ → DraftFault → Type 0

@@ -18,3 +18,6 @@ mod settings;
 mod templates;
 mod values;
 mod words;
+
+pub use draft::read_grammar_text;
+pub use fault::DraftFault;
