@@ -10,6 +10,7 @@ pub mod BracketLaws
 pub mod Classing
 pub mod DeriveLaws
 pub mod Descent
+pub mod DraftLaws
 pub mod ExampleLaws
 pub mod Filters
 pub mod ListLaws

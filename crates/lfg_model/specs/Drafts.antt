@@ -189,3 +189,17 @@ abbrev pub HasFault : List ℕ → FileFault → Type 0
 HasFault bytes (not_utf8 at) = (¬ IsUtf8 bytes) × (at ≡ utf8_valid_len bytes)
 HasFault bytes (no_token at) = IsUtf8 bytes × Stuck 0 (chars bytes) at
 HasFault bytes (no_lexemes fault) = HasLexemesFault bytes fault
+
+-- ---- laws
+
+-- Law: a text says one draft at most.
+abbrev pub OneDraft : Type 0
+OneDraft = (bytes : List ℕ) (d e : DraftForm) → Drafts bytes d → Drafts bytes e → d ≡ e
+
+-- Law: a text is no grammar file for one reason at most.
+abbrev pub OneFault : Type 0
+OneFault = (bytes : List ℕ) (f g : FileFault) → HasFault bytes f → HasFault bytes g → f ≡ g
+
+-- Law: a text that says a draft is a grammar file.
+abbrev pub NeverBoth : Type 0
+NeverBoth = (bytes : List ℕ) (d : DraftForm) (f : FileFault) → Drafts bytes d → HasFault bytes f → ⊥

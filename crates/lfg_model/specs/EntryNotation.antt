@@ -59,6 +59,10 @@ one_name _ = None
 abbrev pub one_such : (Name → Bool) → List Lexeme → Option (List Name)
 one_such test ls = one_name ls >>= λ name. cond (test name) (Some (name ∷ [])) None
 
+-- the name has this text
+abbrev pub is_name : Name → Name → Bool
+is_name text name = same_name name text
+
 -- the name is not that of the empty item
 abbrev pub is_category : Name → Bool
 is_category name = cond (same_name name empty_name) false true
@@ -89,6 +93,10 @@ abbrev mutual
   pair_end a b (Close ∷ ls) = put_pair a b (pairs_at ls)
   pair_end a b _ = None
 
+-- one or more pairs
+abbrev pub some_pairs : List Lexeme → Option (List Name)
+some_pairs ls = pairs_at ls >>= at_least_one
+
 -- the keys with a number
 abbrev pub is_number_key : Name → Bool
 is_number_key key = same_name key (codes "UNCERTAINTYDEPTH") || (same_name key (codes "GENSIZE") || same_name key (codes "MAXFACTS"))
@@ -107,9 +115,9 @@ words_of key ls =
     cond (same_name key (codes "ROOTCAT")) (one_such is_category ls)
     (cond (is_number_key key) (one_such (list_all is_ascii_digit) ls)
     (cond (is_names_key key) (all_names (names_at ls))
-    (cond (is_pairs_key key) (pairs_at ls >>= at_least_one)
-    (cond (same_name key (codes "EPSILON")) (one_such (same_name empty_name) ls)
-    (cond (same_name key (codes "CHARACTERENCODING")) (one_such (same_name (codes "utf-8")) ls) None)))))
+    (cond (is_pairs_key key) (some_pairs ls)
+    (cond (same_name key (codes "EPSILON")) (one_such (is_name empty_name) ls)
+    (cond (same_name key (codes "CHARACTERENCODING")) (one_such (is_name (codes "utf-8")) ls) None)))))
 
 -- a setting: a key and its words
 abbrev pub setting_of : ℕ → List Lexeme → Option Setting

@@ -1,3 +1,5 @@
+ghost use Rattle.lfg_model.specs.Drafts.{NeverBoth, OneDraft, OneFault};
+
 /// How often something stands that may be repeated.
 #[derive(Clone, Copy, Debug, PartialEq, Eq, Drop)]
 pub enum Repetition {
@@ -32,3 +34,10 @@ pub enum SectionKind {
     /// Words with their categories and annotations.
     Lexicon,
 }
+
+/// A text says one draft at most, or is no grammar file for one reason at most, and never both.
+pub fn one_draft()
+    ensures drafts { OneDraft }
+    ensures faults { OneFault }
+    ensures never_both { NeverBoth }
+{}

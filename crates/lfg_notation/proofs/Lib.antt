@@ -1,1 +1,4 @@
+pub mod FileLaws
+pub mod PieceLaws
 pub mod Refusals
+pub mod SectionLaws

@@ -1,4 +1,4 @@
-ghost use Rattle.std.specs.Prelude.{◌≡◌, ◌<◌, ◌≤◌, IfOk, MatchOption, None, length};
+ghost use Rattle.std.specs.Prelude.{◌≡◌, ◌<◌, ◌≤◌, IfOk, IfSome, MatchOption, None, length};
 ghost use Rattle.lfg_model.specs.SchemaNotation.{behind_form_name, behind_inner, form_at, form_of, function_arrow, functions_at, put_function, quoted};
 ghost use Rattle.lfg_notation.specs.Reading.{Gives};
 
@@ -28,7 +28,7 @@ fn form_of(
 fn function_at(lexemes: &[Lexeme]) -> Option<(&Name, &[Lexeme])>
     ensures read { MatchOption result (function_arrow lexemes.now ≡ None)
         (λ x. function_arrow lexemes.now ≡ put_function x.0.now (functions_at x.1.now)) }
-    ensures shorter { MatchOption result (length lexemes.now ≤ length lexemes.now) (λ x. length x.1.now < length lexemes.now) }
+    ensures shorter { IfSome result (λ x. length x.1.now < length lexemes.now) }
 {
     match lexemes {
         [
