@@ -1,0 +1,7 @@
+pub mod Exact
+pub mod LeastLaws
+pub mod PlainLaws
+pub mod RowLaws
+pub mod SetLaws
+pub mod StringLaws
+pub mod Turns
