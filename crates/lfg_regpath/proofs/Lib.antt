@@ -1,5 +1,6 @@
 pub mod Exact
 pub mod LeastLaws
+pub mod Places
 pub mod PlainLaws
 pub mod RowLaws
 pub mod SetLaws

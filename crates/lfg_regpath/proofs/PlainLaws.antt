@@ -1,13 +1,13 @@
 -- The one string of a row of attributes, and the answers of the whole.
-use Rattle.std.proofs.Common.{◌≡◌, ◌<◌, Bool, true, false, List, [], ◌∷◌, ◌++◌, length, refl, sym, ap, subst, ◌∙◌, arith}
+use Rattle.std.proofs.Common.{◌≡◌, Bool, true, false, List, [], ◌∷◌, ◌++◌, refl, sym, ap, subst, ◌∙◌}
 use Rattle.std.specs.Prelude.{◌&&◌}
 use Rattle.std.proofs.lemmas.Bool.{false≢true}
-use Rattle.std.specs.List.Sorted.{IsStrictlySortedBy}
 use Rattle.lfg_terms.specs.PathOrder.{path_cmp}
 use Rattle.lfg_model.specs.Lists.{In, here, Lists}
 use Rattle.lfg_model.specs.Terms.{Path}
 use Rattle.lfg_model.specs.PathExpressions.{PathExpression, attribute, row, one_of, star, plus, PathExpressions, no_path, and_path, HasString, HasRow, is_plain_row, are_plain_rows}
-use Rattle.lfg_model.proofs.ListLaws.{In-nil, In-one}
+use Rattle.lfg_model.proofs.ListLaws.{In-one}
+use Rattle.lfg_regpath.proofs.Places.{one_ascends}
 use Rattle.lfg_regpath.specs.PlainRows.{row_string, rows_string}
 
 -- ---- a row of attributes
@@ -53,10 +53,6 @@ mutual
       let b = plains_one es s.back (both_right (is_plain_row e) (are_plain_rows es) h) s.second in
       s.is ∙ ap (λ (z : Path). z ++ s.back) a ∙ ap (λ (z : Path). row_string e ++ z) b
 
-one_ascends : (w : Path) → IsStrictlySortedBy path_cmp (w ∷ [])
-unfolding IsStrictlySortedBy
-one_ascends w = (tt, tt)
-
 pub plain_listed : (e : PathExpression) (xs : List Path) → is_plain_row e ≡ true → xs ≡ row_string e ∷ [] → Lists path_cmp (HasString e) xs
 plain_listed e xs h s = subst (λ (ys : List Path). Lists path_cmp (HasString e) ys) (sym s) (record {
   ascends = one_ascends (row_string e);
@@ -65,9 +61,3 @@ plain_listed e xs h s = subst (λ (ys : List Path). Lists path_cmp (HasString e)
     λ p. subst (λ (z : Path). In z (row_string e ∷ [])) (sym (plain_one e w h p)) here,
   );
 })
-
--- a set has a member where the list that it is made of has one
-pub some_listed : (found set : List Path) → Lists path_cmp (λ w. In w found) set → 0 < length found → 0 < length set
-some_listed [] set l n = absurd (omega arith)
-some_listed (x ∷ xs) [] l n = In-nil ((l.exact x).1 here)
-some_listed (x ∷ xs) (y ∷ ys) l n = omega arith

@@ -1,15 +1,19 @@
 -- The turns of the loops over the parts of a row and over branches.
 use Rattle.std.proofs.Common.{◌≡◌, ℕ, ◌+◌, ◌≤◌, ◌<◌, List, [], ◌∷◌, ◌++◌, length, refl, sym, ap, subst, ◌∙◌, arith, inl, inr, ◌⊎◌, append_assoc}
 use Rattle.std.proofs.lemmas.List.{length-append, append_cancel_left, append_cancel_right, append-nil}
-use Rattle.lfg_model.specs.Lists.{In, here, none, more}
+use Rattle.lfg_model.specs.Lists.{In, here}
 use Rattle.lfg_model.specs.Terms.{Path}
 use Rattle.lfg_model.specs.PathExpressions.{PathExpression, row, one_of, PathExpressions, no_path, and_path, HasString, HasRow, HasBranch, HasShort, Joins}
 use Rattle.lfg_model.proofs.ListLaws.{In-nil, In-one}
 use Rattle.lfg_regpath.specs.declared.fault.PathFault.{PathFault}
 use Rattle.lfg_regpath.specs.Sets.{Holds, IsJoin, IsSet, Overfull}
 use Rattle.lfg_regpath.specs.Least.{least, least_of_row}
+use Rattle.lfg_regpath.proofs.Places.{none_ascends, one_ascends}
 use Rattle.lfg_regpath.proofs.SetLaws.{is_set, over_same, over_map}
 use Rattle.lfg_regpath.proofs.LeastLaws.{least_le, row_le, Reaches, least_has, row_has}
+
+regroup : (w a v b c : Path) → w ≡ a ++ v → v ≡ b ++ c → w ≡ (a ++ b) ++ c
+regroup w a v b c e f = e ∙ ap (λ z. a ++ z) f ∙ sym (append_assoc a b c)
 
 -- ---- rows
 
@@ -28,7 +32,7 @@ one_string u i = In-one i
 
 pub row_start : (parts : PathExpressions) (spare : ℕ) → RowState parts parts spare 0 ([] ∷ [])
 row_start parts spare = record {
-  is = record { once = more (λ i. In-nil i) none; few = omega arith };
+  is = record { ascends = one_ascends []; few = omega arith };
   low = λ u i. omega arith;
   high = λ u i. omega (arith, ap length (one_string u i));
   shortest = record { string = []; has = here; size = refl };
@@ -67,7 +71,7 @@ module _ (parts rest : PathExpressions) (e : PathExpression) (spare so_far : ℕ
         record {
           front = j.front ++ k.front;
           back = k.back;
-          is = j.is ∙ ap (λ z. j.front ++ z) k.is ∙ sym (append_assoc j.front k.front k.back);
+          is = regroup w j.front j.back k.front k.back j.is k.is;
           first = join_is j.front k.front j.first k.first (omega (arith, a, b, c, d, p, q)) (omega (arith, a, b, c, d, p, q));
           second = k.second;
         }
@@ -112,7 +116,7 @@ module _ (parts rest : PathExpressions) (e : PathExpression) (spare so_far : ℕ
 
 pub row_end : (parts : PathExpressions) (spare so_far limit : ℕ) (set : List Path) → spare + so_far ≡ limit → RowState parts no_path spare so_far set → Holds (HasShort (row parts) limit) set
 row_end parts spare so_far limit set e s = record {
-  once = s.is.once;
+  ascends = s.is.ascends;
   few = s.is.few;
   exact = λ w. (
     λ i. record { has = subst (λ (z : Path). HasRow parts z) (append-nil w) (s.sound w [] i refl); short = omega (arith, s.high w i) },
@@ -135,7 +139,7 @@ pub record BranchState (branches rest : PathExpressions) (limit : ℕ) (set : Li
 
 pub branch_start : (branches : PathExpressions) (limit : ℕ) → BranchState branches branches limit []
 branch_start branches limit = record {
-  is = record { once = none; few = omega arith };
+  is = record { ascends = none_ascends; few = omega arith };
   sound = λ w i. In-nil i;
   within = λ w h. h;
   covers = λ w h l. inr h;
@@ -168,7 +172,7 @@ module _ (branches rest : PathExpressions) (e : PathExpression) (limit : ℕ) (s
 
 pub branch_end : (branches : PathExpressions) (limit : ℕ) (set : List Path) → BranchState branches no_path limit set → Holds (HasShort (one_of branches) limit) set
 branch_end branches limit set s = record {
-  once = s.is.once;
+  ascends = s.is.ascends;
   few = s.is.few;
   exact = λ w. (λ i. s.sound w i, λ h. elim (s.covers w h.has h.short) [ inl a ↦ a | inr b ↦ absurd b ]);
 }

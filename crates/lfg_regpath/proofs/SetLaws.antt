@@ -1,18 +1,16 @@
 -- Sets of strings that grow, and the faults of what makes them.
 use Rattle.std.proofs.Common.{◌≡◌, ℕ, zero, suc, ◌+◌, ◌<◌, ◌≤◌, List, [], ◌∷◌, ◌++◌, length, map, drop, get_or, take, refl, sym, ap, subst, ◌∙◌, arith, inl, inr, ◌⊎◌}
-use Rattle.std.specs.Prelude.{◌↔◌, Bool, false, IsTrue}
-use Rattle.std.proofs.lemmas.Bool.{false≢true}
 use Rattle.std.proofs.lemmas.List.{length-append, take_more}
-use Rattle.std.specs.Ordering.{eq_by_cmp}
-use Rattle.lfg_terms.specs.PathOrder.{path_cmp}
-use Rattle.lfg_terms.proofs.Ties.{path_eq_same}
+use Rattle.std.specs.List.{insert}
+use Rattle.std.specs.List.Sorted.{IsStrictlySortedBy}
 use Rattle.lfg_model.specs.Lists.{In, here, Once, none, more}
 use Rattle.lfg_model.specs.Terms.{Path}
 use Rattle.lfg_model.specs.PathExpressions.{MoreThan}
-use Rattle.lfg_model.proofs.ListLaws.{In-push_cases, In-append_left, In-push, In-nil, In-one, In-take, In-take_more, In_from_map, In-cons_cases, Once-push}
+use Rattle.lfg_model.proofs.ListLaws.{In-append_left, In-append_right, In-push, In-nil, In-one, In-take, In-take_more, In_from_map, In-cons_cases}
 use Rattle.lfg_regpath.specs.declared.fault.PathFault.{PathFault}
 use Rattle.lfg_regpath.specs.declared.fault.PathFault.TheVariants.{TooManyPaths, NoPath, Memory}
-use Rattle.lfg_regpath.specs.Sets.{Holds, IsSet, Overfull, IsPair, IsJoin}
+use Rattle.lfg_regpath.specs.Sets.{Holds, IsSet, IsPlace, Overfull, IsPair, IsJoin}
+use Rattle.lfg_regpath.proofs.Places.{length-insert, In_insert_cases, In_insert_still, once_of}
 
 -- ---- a list that is read
 
@@ -30,48 +28,39 @@ drop_whole zero (x ∷ xs) l = absurd (omega arith)
 drop_whole (suc i) [] l = refl
 drop_whole (suc i) (x ∷ xs) l = drop_whole i xs (omega arith)
 
--- x is not in the front of the list
-pub In_rest : {X : Type 0} {x : X} (xs : List X) (i : ℕ) (y : X) → i < length xs → y ≡ get_or xs i y → ¬ (y ≡ x) → In x (drop i xs) → In x (drop (i + 1) xs)
-In_rest xs i y l e n h = elim (In-cons_cases (rw (at_drop xs i y l e) at h)) [ inl a ↦ absurd (n (sym a)) | inr b ↦ b ]
-
 -- a copy of what stands there
 pub copy_at : {X : Type 0} (xs : List X) (i : ℕ) (x y : X) → y ≡ x → x ≡ get_or xs i x → y ≡ get_or xs i y
 copy_at xs i x y e h = e ∙ h ∙ ap (λ z. get_or xs i z) (sym e)
 
-pub not_so : (r : Bool) (Q : Type 0) → (IsTrue r ↔ Q) → r ≡ false → ¬ Q
-not_so r Q t f q = false≢true (sym f ∙ t.1 q)
-
-pub path_same : (p q : Path) (b : Bool) → b ≡ eq_by_cmp path_cmp p q → IsTrue b ↔ (p ≡ q)
-path_same p q b e = subst (λ (z : Bool). IsTrue z ↔ (p ≡ q)) (sym e) (path_eq_same p q)
-
 -- ---- sets
 
 pub set_none : (P : Path → Type 0) → ((w : Path) → ¬ P w) → Holds P []
-set_none P n = record { once = none; few = omega arith; exact = λ w. (λ i. In-nil i, λ p. absurd (n w p)) }
+unfolding IsStrictlySortedBy
+set_none P n = record { ascends = tt; few = omega arith; exact = λ w. (λ i. In-nil i, λ p. absurd (n w p)) }
 
 pub is_set : (P : Path → Type 0) {xs : List Path} → Holds P xs → IsSet xs
-is_set P h = record { once = h.once; few = h.few }
+is_set P h = record { ascends = h.ascends; few = h.few }
 
 pub set_itself : {xs : List Path} → IsSet xs → Holds (λ w. In w xs) xs
-set_itself s = record { once = s.once; few = s.few; exact = λ w. (λ i. i, λ i. i) }
+set_itself s = record { ascends = s.ascends; few = s.few; exact = λ w. (λ i. i, λ i. i) }
 
 pub set_same : (P Q : Path → Type 0) {xs : List Path} → ((w : Path) → P w → Q w) → ((w : Path) → Q w → P w) → Holds P xs → Holds Q xs
-set_same P Q f g h = record { once = h.once; few = h.few; exact = λ w. (λ i. f w ((h.exact w).0 i), λ q. (h.exact w).1 (g w q)) }
+set_same P Q f g h = record { ascends = h.ascends; few = h.few; exact = λ w. (λ i. f w ((h.exact w).0 i), λ q. (h.exact w).1 (g w q)) }
 
 pub set_there : (p : Path) {xs : List Path} → IsSet xs → In p xs → Holds (λ w. In w xs ⊎ (w ≡ p)) xs
-set_there p s i = record { once = s.once; few = s.few; exact = λ w. (λ j. inl j, λ j. elim j [ inl a ↦ a | inr e ↦ rw e i ]) }
+set_there p s i = record { ascends = s.ascends; few = s.few; exact = λ w. (λ j. inl j, λ j. elim j [ inl a ↦ a | inr e ↦ rw e i ]) }
 
-pub set_added : (p : Path) (xs : List Path) → IsSet xs → ¬ In p xs → length xs < 256 → Holds (λ w. In w xs ⊎ (w ≡ p)) (xs ++ p ∷ [])
-set_added p xs s n l = record {
-  once = Once-push xs p s.once n;
-  few = omega (arith, length-append xs (p ∷ []));
-  exact = λ w. (λ i. In-push_cases xs p i, λ j. elim j [ inl a ↦ In-append_left (p ∷ []) a | inr e ↦ rw e (In-push xs p) ]);
+pub set_added : (p : Path) (xs : List Path) (i : ℕ) → IsPlace xs p i → length xs < 256 → Holds (λ w. In w xs ⊎ (w ≡ p)) (insert xs i p)
+set_added p xs i h l = record {
+  ascends = h.ascends;
+  few = omega (arith, length-insert xs i p);
+  exact = λ w. (In_insert_cases xs i p w, λ j. elim j [ inl a ↦ In_insert_still xs i p w a | inr e ↦ rw e (In-append_right (take i xs) here) ]);
 }
 
-pub set_full : (p : Path) (xs : List Path) → IsSet xs → ¬ In p xs → 256 ≤ length xs → MoreThan 256 (λ w. In w xs ⊎ (w ≡ p))
-set_full p xs s n l = record {
+pub set_full : (p : Path) (xs : List Path) (i : ℕ) → IsSet xs → IsPlace xs p i → 256 ≤ length xs → MoreThan 256 (λ w. In w xs ⊎ (w ≡ p))
+set_full p xs i s h l = record {
   strings = p ∷ xs;
-  different = more n s.once;
+  different = more h.absent (once_of xs s.ascends);
   enough = omega arith;
   each = λ w i. elim (In-cons_cases i) [ inl e ↦ inr e | inr a ↦ inl a ];
 }

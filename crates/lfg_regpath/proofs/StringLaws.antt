@@ -1,12 +1,13 @@
 -- The turns of the loop that repeats, and the strings of a star and a plus.
 use Rattle.std.proofs.Common.{◌≡◌, ℕ, zero, suc, ◌+◌, ◌≤◌, ◌<◌, List, [], ◌∷◌, ◌++◌, length, refl, sym, ap, subst, ◌∙◌, arith, inl, inr, ◌⊎◌, append_assoc}
 use Rattle.std.proofs.lemmas.List.{length-append, append-nil}
-use Rattle.lfg_model.specs.Lists.{In, here, none, more}
+use Rattle.lfg_model.specs.Lists.{In, here}
 use Rattle.lfg_model.specs.Terms.{Name, Path}
 use Rattle.lfg_model.specs.PathExpressions.{PathExpression, attribute, star, plus, HasString, HasShort, Joins, Repeats, no_more, once_more}
-use Rattle.lfg_model.proofs.ListLaws.{In-nil, In-one}
+use Rattle.lfg_model.proofs.ListLaws.{In-one}
 use Rattle.lfg_regpath.specs.declared.fault.PathFault.{PathFault}
 use Rattle.lfg_regpath.specs.Sets.{Holds, IsJoin, IsRepeat, IsSet, Overfull}
+use Rattle.lfg_regpath.proofs.Places.{one_ascends}
 use Rattle.lfg_regpath.proofs.SetLaws.{is_set, set_same, over_same}
 
 -- ---- joined strings
@@ -114,7 +115,7 @@ module _ (xs : List Path) (limit k : ℕ) (set : List Path) (s : RepeatState xs 
 
   pub repeat_end : limit ≤ k → Holds (IsRepeat xs limit) set
   repeat_end l = record {
-    once = s.is.once;
+    ascends = s.is.ascends;
     few = s.is.few;
     exact = λ w. (λ i. s.sound w i, λ r. let c = chain_of xs limit w r in s.reached c.links w (omega (arith, c.few, r.short)) c.chain r.short);
   }
@@ -191,7 +192,7 @@ attribute_none name w h = let no : ⊥ = omega (arith, ap length h.has, h.short)
 
 pub attribute_set : (name : Name) (limit : ℕ) (set : List Path) → 0 < limit → set ≡ (name ∷ []) ∷ [] → Holds (HasShort (attribute name) limit) set
 attribute_set name limit set l e = subst (λ (z : List Path). Holds (HasShort (attribute name) limit) z) (sym e) (record {
-  once = more (λ i. In-nil i) none;
+  ascends = one_ascends (name ∷ []);
   few = omega arith;
   exact = λ w. (λ i. let f = In-one i in record { has = f; short = omega (arith, ap length f) }, λ h. rw h.has here);
 })

@@ -1,6 +1,6 @@
 ghost use Rattle.std.specs.Prelude.{◌≡◌, ◌<◌, ◌≤◌, true, List, IfOk, IfErr, IsOkUnless, length};
 ghost use Rattle.lfg_terms.specs.PathOrder.{path_cmp};
-ghost use Rattle.lfg_model.specs.Lists.{In, Lists};
+ghost use Rattle.lfg_model.specs.Lists.{Lists};
 ghost use Rattle.lfg_model.specs.Terms.{Path};
 ghost use Rattle.lfg_model.specs.PathExpressions.{HasString, MoreThan, Strings, expression_of, is_plain_row};
 ghost use Rattle.lfg_regpath.specs.Faults.{FailsBy, IsRefused};
@@ -10,16 +10,6 @@ use crate::plain_row::{is_plain_row, push_row};
 use crate::strings::strings;
 use lfg_terms::{Path, PathExpr, Paths};
 use std::alloc::{AllocError, Global};
-
-/// The paths in order, each once.
-fn sorted_set(mut paths: Vec<Path>) -> Result<Vec<Path>, AllocError>
-    ensures set { IfOk result (λ set. Lists path_cmp (λ w. In w paths.items) set.items) }
-    ensures few { IfOk result (λ set. length set.items ≤ length paths.items) }
-{
-    paths.sort()?;
-    paths.dedup();
-    Ok(paths)
-}
 
 /// The one string of a path of attributes and rows alone.
 fn only_string(alloc: Global, path: &PathExpr) -> Result<Vec<Path>, AllocError>
@@ -49,7 +39,7 @@ fn listed(alloc: Global, path: &PathExpr, depth: u8) -> Result<Paths, PathFault>
     if found.is_empty() {
         return Err(PathFault::NoPath);
     }
-    Ok(Paths::new(alloc, sorted_set(found)?)?)
+    Ok(Paths::new(alloc, found)?)
 }
 
 /// The strings that the path stands for, ordered by length and then by the attributes' bytes, each

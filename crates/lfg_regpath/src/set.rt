@@ -1,6 +1,8 @@
-ghost use Rattle.std.specs.Prelude.{◌≡◌, ◌++◌, ◌∷◌, ◌⊎◌, ◌↔◌, ◌≤◌, [], IfOk, IfErr, OnOk, IsTrue, length};
+ghost use Rattle.std.specs.Prelude.{◌≡◌, ◌++◌, ◌∷◌, ◌⊎◌, ◌≤◌, [], IfOk, IfErr, OnOk, length};
+ghost use Rattle.std.specs.List.Sorted.{IsStrictlySortedBy};
+ghost use Rattle.lfg_terms.specs.PathOrder.{path_cmp};
 ghost use Rattle.lfg_model.specs.Lists.{In};
-ghost use Rattle.lfg_regpath.specs.Sets.{Holds, IsJoin, IsPair, IsSet, Overfull};
+ghost use Rattle.lfg_regpath.specs.Sets.{Holds, IsJoin, IsPair, IsPlace, IsSet, Overfull};
 
 use crate::fault::PathFault;
 use lfg_terms::{Name, Path};
@@ -9,16 +11,13 @@ use std::alloc::{AllocError, Global};
 /// The greatest number of strings that a path expression may have.
 const LIMIT: usize = 256;
 
-/// Whether the path is one of the paths.
-fn is_among(paths: &[Path], path: &Path) -> bool
-    ensures { IsTrue result ↔ In path.now paths.now }
+/// Where the path stands, or where it would stand in order.
+fn place_of(paths: &[Path], path: &Path) -> Result<usize, usize>
+    requires { IsStrictlySortedBy path_cmp paths.now }
+    ensures found { IfOk result (λ _. In path.now paths.now) }
+    ensures missing { IfErr result (IsPlace paths.now path.now) }
 {
-    for other in paths {
-        if other == path {
-            return true;
-        }
-    }
-    false
+    paths.binary_search(path)
 }
 
 /// Adds the path to the set, unless it is there.
@@ -27,13 +26,13 @@ pub(crate) fn add(set: &mut Vec<Path>, path: Path) -> Result<(), PathFault>
     ensures added { OnOk result (Holds (λ w. In w set.old.items ⊎ (w ≡ path)) set.new.items) }
     ensures full { IfErr result (λ fault. Overfull (λ w. In w set.old.items ⊎ (w ≡ path)) fault) }
 {
-    if is_among(set, &path) {
+    let Err(place) = place_of(set, &path) else {
         return Ok(());
-    }
+    };
     if set.len() >= LIMIT {
         return Err(PathFault::TooManyPaths);
     }
-    set.push(path)?;
+    set.insert(place, path)?;
     Ok(())
 }
 
