@@ -1,5 +1,5 @@
 -- The turns of the loop that repeats, and the strings of a star and a plus.
-use Rattle.std.proofs.Common.{◌≡◌, ℕ, zero, suc, ◌+◌, ◌≤◌, ◌<◌, List, [], ◌∷◌, ◌++◌, length, refl, sym, ap, subst, ◌∙◌, arith, inl, inr, ◌⊎◌, append_assoc}
+use Rattle.std.proofs.Common.{◌≡◌, ℕ, zero, suc, ◌+◌, ◌≤◌, ◌<◌, List, [], ◌∷◌, ◌++◌, length, refl, sym, ap, subst, ◌∙◌, add-one, arith, inl, inr, ◌⊎◌, append_assoc}
 use Rattle.std.proofs.lemmas.List.{length-append, append-nil}
 use Rattle.lfg_model.specs.Lists.{In, here}
 use Rattle.lfg_model.specs.Terms.{Name, Path}
@@ -58,27 +58,38 @@ chain_of xs limit w r = chained_at xs (r.joins.front ++ r.joins.back) w r.joins.
 
 -- ---- the loop
 
--- how often is repeated: set has the strings of at most k + 1 strings of xs
-pub record RepeatState (xs : List Path) (limit k : ℕ) (set : List Path) : Type 0 where
+-- how often is repeated: last has the strings of xs with k further ones of xs behind it, and set
+-- has those with at most k
+pub record RepeatState (xs : List Path) (limit k : ℕ) (set last : List Path) : Type 0 where
   pub is : IsSet set
   pub sound : (w : Path) → In w set → IsRepeat xs limit w
+  pub last_sound : (w : Path) → In w last → IsRepeat xs limit w
+  pub last_has : (w : Path) → Chain xs k w → length w ≤ limit → In w last
   pub reached : (j : ℕ) (w : Path) → j ≤ k → Chain xs j w → length w ≤ limit → In w set
 
-pub repeat_start : (xs : List Path) (limit : ℕ) → IsSet xs → ((w : Path) → In w xs → length w ≤ limit) → RepeatState xs limit 0 xs
+pub repeat_start : (xs : List Path) (limit : ℕ) → IsSet xs → ((w : Path) → In w xs → length w ≤ limit) → RepeatState xs limit 0 xs xs
 repeat_start xs limit s short = record {
   is = s;
-  sound = λ w i. record { joins = record { front = w; back = []; is = sym (append-nil w); first = i; second = no_more }; short = short w i };
+  sound = one_repeat;
+  last_sound = one_repeat;
+  last_has = λ w c m. c;
   reached = at_start;
 }
   where
+    one_repeat : (w : Path) → In w xs → IsRepeat xs limit w
+    one_repeat w i = record { joins = record { front = w; back = []; is = sym (append-nil w); first = i; second = no_more }; short = short w i }
+
     at_start : (j : ℕ) (w : Path) → j ≤ 0 → Chain xs j w → length w ≤ limit → In w xs
     at_start zero w l c m = c
     at_start (suc j) w l c m = absurd (let no : ⊥ = omega arith in no)
 
-module _ (xs : List Path) (limit k : ℕ) (set : List Path) (s : RepeatState xs limit k set) where
-  pub joined_repeat : (w : Path) → IsJoin set xs limit w → IsRepeat xs limit w
+last_or_before : (j k : ℕ) → j ≤ k + 1 → (j ≤ k) ⊎ (j ≡ suc k)
+last_or_before j k l = grind arith
+
+module _ (xs : List Path) (limit k : ℕ) (set last : List Path) (s : RepeatState xs limit k set last) where
+  pub joined_repeat : (w : Path) → IsJoin last xs limit w → IsRepeat xs limit w
   joined_repeat w j =
-      let r = s.sound j.joins.front j.joins.first in
+      let r = s.last_sound j.joins.front j.joins.first in
       record {
         joins = record {
           front = r.joins.front;
@@ -90,26 +101,33 @@ module _ (xs : List Path) (limit k : ℕ) (set : List Path) (s : RepeatState xs 
         short = j.short;
       }
 
-  pub repeat_stop : (fault : PathFault) → Overfull (IsJoin set xs limit) fault → Overfull (IsRepeat xs limit) fault
-  repeat_stop fault over = over_same (IsJoin set xs limit) (IsRepeat xs limit) joined_repeat fault over
+  pub repeat_stop : (fault : PathFault) → Overfull (IsJoin last xs limit) fault → Overfull (IsRepeat xs limit) fault
+  repeat_stop fault over = over_same (IsJoin last xs limit) (IsRepeat xs limit) joined_repeat fault over
 
-  module _ (longer : List Path) (m : Holds (IsJoin set xs limit) longer) where
+  module _ (longer : List Path) (m : Holds (IsJoin last xs limit) longer) where
     either_repeat : (w : Path) → In w set ⊎ In w longer → IsRepeat xs limit w
     either_repeat w j = elim j [ inl a ↦ s.sound w a | inr b ↦ joined_repeat w ((m.exact w).0 b) ]
 
     pub repeat_stop_added : (fault : PathFault) → Overfull (λ w. In w set ⊎ In w longer) fault → Overfull (IsRepeat xs limit) fault
     repeat_stop_added fault over = over_same (λ w. In w set ⊎ In w longer) (IsRepeat xs limit) either_repeat fault over
 
-    next_reached : (j : ℕ) (w : Path) → j ≤ k + 1 → Chain xs j w → length w ≤ limit → In w set ⊎ In w longer
-    next_reached zero w l c h = inl (s.reached zero w (omega arith) c h)
-    next_reached (suc j) w l c h =
+    longer_has : (w : Path) → Chain xs (suc k) w → length w ≤ limit → In w longer
+    longer_has w c h =
         let a : length w ≡ length c.front + length c.back = ap length c.is ∙ length-append c.front c.back in
-        inr ((m.exact w).1 (record { joins = record { front = c.front; back = c.back; is = c.is; first = s.reached j c.front (omega arith) c.first (omega arith); second = c.second }; short = h }))
+        (m.exact w).1 (record { joins = record { front = c.front; back = c.back; is = c.is; first = s.last_has c.front c.first (omega arith); second = c.second }; short = h })
 
-    pub repeat_step : (next : List Path) → Holds (λ w. In w set ⊎ In w longer) next → RepeatState xs limit (k + 1) next
+    next_reached : (j : ℕ) (w : Path) → j ≤ k + 1 → Chain xs j w → length w ≤ limit → In w set ⊎ In w longer
+    next_reached j w l c h = elim (last_or_before j k l) [
+      | inl a ↦ inl (s.reached j w a c h)
+      | inr e ↦ inr (longer_has w (subst (λ (i : ℕ). Chain xs i w) e c) h)
+    ]
+
+    pub repeat_step : (next : List Path) → Holds (λ w. In w set ⊎ In w longer) next → RepeatState xs limit (k + 1) next longer
     repeat_step next n = record {
       is = is_set _ n;
       sound = λ w i. either_repeat w ((n.exact w).0 i);
+      last_sound = λ w i. joined_repeat w ((m.exact w).0 i);
+      last_has = λ w c h. longer_has w (subst (λ (i : ℕ). Chain xs i w) (add-one k) c) h;
       reached = λ j w l c h. (n.exact w).1 (next_reached j w l c h);
     }
 

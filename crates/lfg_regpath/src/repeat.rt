@@ -27,9 +27,11 @@ pub(crate) fn repeated(alloc: Global, paths: &[Path], limit: usize) -> Result<Ve
     ensures full { IfErr result (λ fault. Overfull (IsRepeat paths.now limit) fault) }
 {
     let mut set = copied(alloc, paths)?;
+    let mut last = copied(alloc, paths)?;
     for _round in 0..limit {
-        let longer = joined(alloc, &set, paths, limit)?;
+        let longer = joined(alloc, &last, paths, limit)?;
         add_all(&mut set, &longer)?;
+        last = longer;
     }
     Ok(set)
 }
