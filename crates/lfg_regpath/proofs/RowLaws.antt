@@ -12,6 +12,9 @@ use Rattle.lfg_regpath.proofs.Places.{none_ascends, one_ascends}
 use Rattle.lfg_regpath.proofs.SetLaws.{is_set, over_same, over_map}
 use Rattle.lfg_regpath.proofs.LeastLaws.{least_le, row_le, Reaches, least_has, row_has}
 
+length_joined : (w u v : Path) → w ≡ u ++ v → length w ≡ length u + length v
+length_joined w u v e = ap length e ∙ length-append u v
+
 regroup : (w a v b c : Path) → w ≡ a ++ v → v ≡ b ++ c → w ≡ (a ++ b) ++ c
 regroup w a v b c e f = e ∙ ap (λ z. a ++ z) f ∙ sym (append_assoc a b c)
 
@@ -64,15 +67,13 @@ module _ (parts rest : PathExpressions) (e : PathExpression) (spare so_far : ℕ
         let k = j.second in
         let a = s.low j.front j.first in
         let b = row_le rest k.back k.second in
-        let c = length-append j.front j.back in
-        let d = length-append k.front k.back in
-        let p = ap length j.is in
-        let q = ap length k.is in
+        let c = length_joined w j.front j.back j.is in
+        let d = length_joined j.back k.front k.back k.is in
         record {
           front = j.front ++ k.front;
           back = k.back;
           is = regroup w j.front j.back k.front k.back j.is k.is;
-          first = join_is j.front k.front j.first k.first (omega (arith, a, b, c, d, p, q)) (omega (arith, a, b, c, d, p, q));
+          first = join_is j.front k.front j.first k.first (omega (arith, a, b, c, d)) (omega (arith, a, b, c, d));
           second = k.second;
         }
 
