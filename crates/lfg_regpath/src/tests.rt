@@ -119,3 +119,15 @@ fn parts_are_cut_by_what_is_left(rt: HostRuntime) -> Result<(), Fail> {
     );
     Ok(())
 }
+
+#[test]
+fn deep_paths_are_read(rt: HostRuntime) -> Result<(), Fail> {
+    let alloc = rt.alloc();
+    let mut path = PathExpr::Attr(Name::new(alloc, "A")?);
+    for _ in 0..1000 {
+        path = PathExpr::Row(vec![in alloc; path]?);
+    }
+    let path = plus(alloc, path)?;
+    assert_eq!(rt; shown(&rt, alloc, path, 2)?.as_str(), " A| A A|");
+    Ok(())
+}
