@@ -1,0 +1,4 @@
+pub mod Faults
+pub mod Least
+pub mod PlainRows
+pub mod Sets
