@@ -2,6 +2,7 @@ pub mod Brackets
 pub mod Derive
 pub mod Equal
 pub mod Examples
+pub mod Graphs
 pub mod Lists
 pub mod Literals
 pub mod ManWalks
@@ -13,7 +14,9 @@ pub mod Readings
 pub mod Resolve
 pub mod RightSides
 pub mod Rounds
+pub mod Sequences
 pub mod Solve
+pub mod Spelling
 pub mod Terms
 pub mod Thin
 pub mod ThinText
