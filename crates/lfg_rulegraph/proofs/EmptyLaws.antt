@@ -106,9 +106,9 @@ mutual
   row_allows no_side all before p w s e = refl
   row_allows (and_side part parts) all before p w s e =
       let a = allows part all before (front_placed all before (categories part) (categories_of parts) p) s.front s.first
-            (λ occ i. e occ (subst (λ (v : List ℕ). In occ v) (sym s.is) (In-append_left s.back i))) in
+      (λ occ i. e occ (subst (λ (v : List ℕ). In occ v) (sym s.is) (In-append_left s.back i))) in
       let b = row_allows parts all (before + length (categories part)) (back_placed all before (categories part) (categories_of parts) p) s.back s.second
-            (λ occ i. e occ (subst (λ (v : List ℕ). In occ v) (sym s.is) (In-append_right s.front i))) in
+      (λ occ i. e occ (subst (λ (v : List ℕ). In occ v) (sym s.is) (In-append_right s.front i))) in
       (both_true (allows_empty part) (all_allow_empty parts)).1 (a, b)
 
   branch_allows : (branches : RightSides) (all : List Name) (before : ℕ) → Placed all before (categories_of branches) → (w : List ℕ) → SpellsBranch before branches w
@@ -150,8 +150,7 @@ mutual
   stars_exact no_side = ((λ t. cc), (λ h. absurd h))
   stars_exact (and_side side sides) =
       let a = star_exact side in
-      let b = stars_exact sides in
-      (
+      let b = stars_exact sides in (
         (λ t. elim ((one_true (has_empty_star side) (some_has_empty_star sides)).0 t) [ inl h ↦ inl (a.0 h) | inr h ↦ inr (b.0 h) ]),
         (λ h. (one_true (has_empty_star side) (some_has_empty_star sides)).1 (elim h [ inl k ↦ inl (a.1 k) | inr k ↦ inr (b.1 k) ])),
       )

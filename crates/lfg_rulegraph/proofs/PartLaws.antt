@@ -97,7 +97,7 @@ row_step parts before side rest part next both old mid new last s a r e l = reco
     whole =
         subst (λ (n : ℕ). IsTable (Joins (Reads (table_of part s.added)) (SpellsBehind part.end side)) before n (table_of both added)) (sym at)
         (subst (λ (t : Table). IsTable (Joins (Reads (table_of part s.added)) (SpellsBehind part.end side)) before (part.end + item_count side) t) (sym (r s.added a.added))
-            (row_table s.behind (omega arith) (record { within = s.within; exact = λ w. ((λ g. g), (λ g. g)) }) a.table (row_form (table_of part s.added) (table_of next a.added))))
+        (row_table s.behind (omega arith) (record { within = s.within; exact = λ w. ((λ g. g), (λ g. g)) }) a.table (row_form (table_of part s.added) (table_of next a.added))))
 
 pub row_end : (parts : RightSides) (before : ℕ) (part : Part) (old new : List Link) → RowSoFar parts before no_side part old new
     → Adds (SpellsRow before parts) before (before + items_count parts) part old new
@@ -163,7 +163,7 @@ choice_step branches before side rest part next both old mid new s a r e = recor
     whole =
         subst (λ (n : ℕ). IsTable (λ w. Reads (table_of part s.added) w ⊎ SpellsBehind part.end side w) before n (table_of both (s.added ++ a.added))) (sym at)
         (subst (λ (t : Table). IsTable (λ w. Reads (table_of part s.added) w ⊎ SpellsBehind part.end side w) before (part.end + item_count side) t) (sym (r s.added a.added))
-            (choice_table s.behind (omega arith) (record { within = s.within; exact = λ w. ((λ g. g), (λ g. g)) }) a.table (choice_form (table_of part s.added) (table_of next a.added))))
+        (choice_table s.behind (omega arith) (record { within = s.within; exact = λ w. ((λ g. g), (λ g. g)) }) a.table (choice_form (table_of part s.added) (table_of next a.added))))
 
 pub choice_end : (branches : RightSides) (before : ℕ) (part : Part) (old new : List Link) → ChoiceSoFar branches before no_side part old new
     → Adds (SpellsBranch before branches) before (before + items_count branches) part old new

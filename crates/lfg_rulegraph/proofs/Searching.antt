@@ -28,10 +28,12 @@ search_exact xs x (Ok i) s f =
     let m = searched xs x (Ok i) f (rises xs s) in
     ((λ t. subst (λ (n : ℕ). In n xs) m.1 (In-at xs i 0 m.0)), (λ i. refl))
 search_exact xs x (Err i) s f =
-    let m = searched xs x (Err i) f (rises xs s) in
-    ((λ t. cc), (λ h. 
-      let p = In-place h in
-      absurd (elim (sides p.0 i) [ inl l ↦ omega (arith, m.1 p.0 l, p.2 0) | inr l ↦ omega (arith, m.2 p.0 l p.1, p.2 0) ])))
+    let m = searched xs x (Err i) f (rises xs s) in (
+      (λ t. cc),
+      (λ h.
+          let p = In-place h in
+          absurd (elim (sides p.0 i) [ inl l ↦ omega (arith, m.1 p.0 l, p.2 0) | inr l ↦ omega (arith, m.2 p.0 l p.1, p.2 0) ])),
+    )
 
 -- ---- the lists of a graph
 

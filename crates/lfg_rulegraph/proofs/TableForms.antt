@@ -59,9 +59,9 @@ row_form a b = record {
     back q p h = elim h [
       | inl k ↦ In-append_left (crossing a.last b.first) (In-append_left b.links k)
       | inr k ↦ elim k [
-          | inl j ↦ In-append_left (crossing a.last b.first) (In-append_right a.links j)
-          | inr j ↦ In-append_right (a.links ++ b.links) ((crosses q p a.last b.first).1 j)
-        ]
+        | inl j ↦ In-append_left (crossing a.last b.first) (In-append_right a.links j)
+        | inr j ↦ In-append_right (a.links ++ b.links) ((crosses q p a.last b.first).1 j)
+      ]
     ]
 
 pub choice_form : (a b : Table) → IsChoice a b (choice_of a b)

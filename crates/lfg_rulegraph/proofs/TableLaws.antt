@@ -24,9 +24,9 @@ module _ (from mid to : ℕ) (a b t : Table) (wa : IsWithin from mid a) (wb : Is
   behind q (p ∷ rest) h g = elim ((r.links q p).0 g.0) [
     | inl l ↦ absurd (apart from mid to q (wa.before q p l) h)
     | inr l ↦ elim l [
-        | inl k ↦ (k, behind p rest (wb.after q p k) g.1)
-        | inr k ↦ absurd (apart from mid to q (wa.last q k.0) h)
-      ]
+      | inl k ↦ (k, behind p rest (wb.after q p k) g.1)
+      | inr k ↦ absurd (apart from mid to q (wa.last q k.0) h)
+    ]
   ]
 
   -- the back of a row that goes on in the second part
@@ -51,9 +51,9 @@ module _ (from mid to : ℕ) (a b t : Table) (wa : IsWithin from mid a) (wb : Is
   parted q (p ∷ rest) h g = elim ((r.links q p).0 g.0) [
     | inl l ↦ let j = parted p rest (wa.after q p l) g.1 in record { front = p ∷ j.front; back = j.back; is = ap (λ (ws : List ℕ). p ∷ ws) j.is; first = (l, j.first); second = j.second }
     | inr l ↦ elim l [
-        | inl k ↦ absurd (apart from mid to q h (wb.before q p k))
-        | inr k ↦ record { front = []; back = p ∷ rest; is = refl; first = k.0; second = (k.1, behind p rest (wb.first p k.1) g.1) }
-      ]
+      | inl k ↦ absurd (apart from mid to q h (wb.before q p k))
+      | inr k ↦ record { front = []; back = p ∷ rest; is = refl; first = k.0; second = (k.1, behind p rest (wb.first p k.1) g.1) }
+    ]
   ]
 
   row_parted : (w : List ℕ) → Reads t w → Joins (Reads a) (Reads b) w

@@ -21,10 +21,8 @@ fn is_empty_item(cat: &Name) -> bool
 /// `EmptyStar` exactly where the inside of some star or plus allows one.
 #[cycle(empty)]
 pub(crate) fn allows_empty(rhs: &Rhs) -> Result<bool, GraphFault>
-    ensures {
-        let side = right_side_of rhs.now in
-        MatchResult result (IsAllowed (allows_empty side) (has_empty_star side)) (IsStarFault (has_empty_star side))
-    }
+    ensures { let side = right_side_of rhs.now in
+        MatchResult result (IsAllowed (allows_empty side) (has_empty_star side)) (IsStarFault (has_empty_star side)) }
 {
     match rhs {
         Rhs::Item { cat, .. } => Ok(is_empty_item(cat)),
@@ -52,10 +50,8 @@ pub(crate) fn allows_empty(rhs: &Rhs) -> Result<bool, GraphFault>
 /// Whether each of the parts allows a row without a category.
 #[cycle(empty)]
 fn all_allow_empty(parts: &[Rhs]) -> Result<bool, GraphFault>
-    ensures {
-        let sides = right_sides_of parts.now in
-        MatchResult result (IsAllowed (all_allow_empty sides) (some_has_empty_star sides)) (IsStarFault (some_has_empty_star sides))
-    }
+    ensures { let sides = right_sides_of parts.now in
+        MatchResult result (IsAllowed (all_allow_empty sides) (some_has_empty_star sides)) (IsStarFault (some_has_empty_star sides)) }
 {
     let mut all = true;
     for part in parts {
@@ -67,10 +63,8 @@ fn all_allow_empty(parts: &[Rhs]) -> Result<bool, GraphFault>
 /// Whether one of the branches allows a row without a category.
 #[cycle(empty)]
 fn some_allows_empty(branches: &[Rhs]) -> Result<bool, GraphFault>
-    ensures {
-        let sides = right_sides_of branches.now in
-        MatchResult result (IsAllowed (some_allows_empty sides) (some_has_empty_star sides)) (IsStarFault (some_has_empty_star sides))
-    }
+    ensures { let sides = right_sides_of branches.now in
+        MatchResult result (IsAllowed (some_allows_empty sides) (some_has_empty_star sides)) (IsStarFault (some_has_empty_star sides)) }
 {
     let mut some = false;
     for branch in branches {

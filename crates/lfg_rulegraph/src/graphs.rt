@@ -2,7 +2,6 @@ ghost use Rattle.std.specs.Prelude.{◌≡◌, ◌↔◌, ℕ, ◌+◌, ◌<◌,
 ghost use Rattle.std.specs.Ordering.{nat_cmp};
 ghost use Rattle.lfg_model.specs.Lists.{In, Lists};
 ghost use Rattle.lfg_model.specs.RightSides.{right_side_of};
-ghost use Rattle.lfg_model.specs.Spelling.{item_count};
 ghost use Rattle.lfg_rulegraph.specs.declared.part.Link.{Link};
 ghost use Rattle.lfg_rulegraph.specs.Followers.{AreEmpty, AreSets, FollowersOf, HasTable, Pushed};
 ghost use Rattle.lfg_rulegraph.specs.Graphs.{IsGraphOf, IsRefused};
@@ -101,7 +100,6 @@ fn graph_of(alloc: Global, part: Part, links: &[Link]) -> Result<Graph, AllocErr
 
 /// The graph of a right side.
 pub fn graph(alloc: Global, rhs: &Rhs) -> Result<Graph, GraphFault>
-    requires { item_count (right_side_of rhs.now) < 4294967295 }
     ensures graph { IfOk result (λ graph. IsGraphOf (right_side_of rhs.now) graph) }
     ensures refused { IfErr result (λ fault. IsRefused (right_side_of rhs.now) fault) }
 {

@@ -1,4 +1,4 @@
-ghost use Rattle.std.specs.Prelude.{◌≡◌, ◌++◌, List, [], IfOk, OnOk, if◌then◌else◌, map};
+ghost use Rattle.std.specs.Prelude.{◌≡◌, ◌+◌, ◌++◌, List, [], IfOk, OnOk, if◌then◌else◌, map};
 ghost use Rattle.lfg_rulegraph.specs.Tables.{crossing, link, no_item, one_item, option_of};
 ghost use Rattle.lfg_rulegraph.specs.Parts.{IsChoiceOf, IsRowOf, table_of};
 ghost use Rattle.lfg_rulegraph.specs.declared.part.Link.{Link};
@@ -25,11 +25,18 @@ pub(crate) struct Part {
     pub last: Vec<u32>,
 }
 
-/// The part of one item.
-pub(crate) fn item_part(alloc: Global, number: u32) -> Result<Part, AllocError>
-    ensures table { IfOk result (λ part. table_of part [] ≡ one_item number) }
-    ensures end { IfOk result (λ part. part.end ≡ number) }
+/// The part of one item behind this number of items.
+///
+/// # Errors
+///
+/// For want of memory, and where the item's number is past 32 bits.
+pub(crate) fn item_part(alloc: Global, before: u32) -> Result<Part, AllocError>
+    ensures table { IfOk result (λ part. table_of part [] ≡ one_item (before + 1)) }
+    ensures end { IfOk result (λ part. part.end ≡ before + 1) }
 {
+    let Some(number) = before.checked_add(1) else {
+        return Err(AllocError);
+    };
     Ok(Part {
         end: number,
         empty: false,
@@ -86,11 +93,7 @@ fn with_others(mut items: Vec<u32>, others: &[u32], also: bool) -> Result<Vec<u3
 }
 
 /// A part and another one behind it. Adds the links from the one to the other.
-pub(crate) fn row_of(
-    front: Part,
-    back: Part,
-    links: &mut Vec<Link>,
-) -> Result<Part, AllocError>
+pub(crate) fn row_of(front: Part, back: Part, links: &mut Vec<Link>) -> Result<Part, AllocError>
     ensures part { IfOk result (λ part. IsRowOf front back part) }
     ensures end { IfOk result (λ part. part.end ≡ back.end) }
     ensures links { OnOk result (links.new.items ≡ links.old.items ++ crossing front.last.items back.first.items) }
@@ -123,7 +126,10 @@ pub(crate) fn option_of(part: Part) -> Part
     ensures end { result.end ≡ part.end }
 {
     let Part {
-        end, first, last, ..
+        end,
+        first,
+        last,
+        ..
     } = part;
     Part {
         end,

@@ -1,4 +1,4 @@
-ghost use Rattle.std.specs.Prelude.{◌+◌, ◌<◌, IfOk};
+ghost use Rattle.std.specs.Prelude.{◌+◌, IfOk};
 ghost use Rattle.lfg_model.specs.RightSides.{right_side_of, right_sides_of};
 ghost use Rattle.lfg_model.specs.Spelling.{SpellsBehind, SpellsBranch, SpellsRow, item_count, items_count};
 ghost use Rattle.lfg_rulegraph.specs.Parts.{Adds};
@@ -15,11 +15,10 @@ pub(crate) fn part_of(
     before: u32,
     links: &mut Vec<Link>,
 ) -> Result<Part, AllocError>
-    requires { before + item_count (right_side_of rhs.now) < 4294967295 }
     ensures { IfOk result (λ part. Adds (SpellsBehind before (right_side_of rhs.now)) before (before + item_count (right_side_of rhs.now)) part links.old.items links.new.items) }
 {
     match rhs {
-        Rhs::Item { .. } => item_part(alloc, before + 1),
+        Rhs::Item { .. } => item_part(alloc, before),
         Rhs::Row(parts) => row_part(alloc, parts, before, links),
         Rhs::OneOf(branches) => choice_part(alloc, branches, before, links),
         Rhs::Maybe(inside) => {
@@ -47,7 +46,6 @@ fn row_part(
     before: u32,
     links: &mut Vec<Link>,
 ) -> Result<Part, AllocError>
-    requires { before + items_count (right_sides_of parts.now) < 4294967295 }
     ensures { IfOk result (λ part. Adds (SpellsRow before (right_sides_of parts.now)) before (before + items_count (right_sides_of parts.now)) part links.old.items links.new.items) }
 {
     let mut row = empty_part(alloc, before, true);
@@ -66,7 +64,6 @@ fn choice_part(
     before: u32,
     links: &mut Vec<Link>,
 ) -> Result<Part, AllocError>
-    requires { before + items_count (right_sides_of branches.now) < 4294967295 }
     ensures { IfOk result (λ part. Adds (SpellsBranch before (right_sides_of branches.now)) before (before + items_count (right_sides_of branches.now)) part links.old.items links.new.items) }
 {
     let mut choice = empty_part(alloc, before, false);
