@@ -26,9 +26,9 @@ pub(crate) fn part_of(
             Ok(option_of(part))
         }
         Rhs::Star(inside) => {
-            let part = part_of(alloc, inside, before, links)?;
-            connect(links, &part.last, &part.first)?;
-            Ok(option_of(part))
+            let once = part_of(alloc, inside, before, links)?;
+            connect(links, &once.last, &once.first)?;
+            Ok(option_of(once))
         }
         Rhs::Plus(inside) => {
             let part = part_of(alloc, inside, before, links)?;

@@ -11,4 +11,4 @@ loop-list-init c = subst (λ (sets : List (List ℕ)). AreSets [] sets) (sym c.n
 pub loop-list-preserved : goal.loop-list-preserved
 loop-list-preserved c =
     let set = subst (λ (ps : List ℕ). Lists nat_cmp (λ p. In p c.in-Some.list.items) ps) (sym c.in_ok-new.ensures) c.in_ok-sorted_set.ensures in
-    subst (λ (sets : List (List ℕ)). AreSets (c.loop-list.yielded ++ c.in-Some.list ∷ []) sets) (sym c.in_ok-push.ensures.items) (sets_more c.in-Some.list c.in_ok-new.field-0 c.loop-list.invariant set)
+    subst (λ (sets : List (List ℕ)). AreSets (c.loop-list.yielded ++ c.in-Some.list ∷ []) sets) (sym {A = List (List ℕ)} c.in_ok-push.ensures.items) (sets_more c.in-Some.list c.in_ok-new.field-0 c.loop-list.invariant set)

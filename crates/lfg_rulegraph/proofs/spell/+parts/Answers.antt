@@ -35,9 +35,9 @@ part_of-returns-in_ok-part-in-Maybe t c =
 pub part_of-returns-in_ok-connect-in-Star : goal.part_of-returns-in_ok-connect-in-Star
 part_of-returns-in_ok-connect-in-Star t c =
     let e = ap right_side_of c.in-Star.is ∙ view_star c.in-Star.inside ∙ ap (λ (r : Rhs). star (right_side_of r)) (sym c.deref-in-Star.ensures) in
-    let k : c.connect.new.links.items ≡ c.part_of-in-Star.new.links.items ++ crossing c.in_ok-part-in-Star.part.last.items c.in_ok-part-in-Star.part.first.items = search rules in
+    let k : c.connect.new.links.items ≡ c.part_of-in-Star.new.links.items ++ crossing c.in_ok-once-in-Star.once.last.items c.in_ok-once-in-Star.once.first.items = search rules in
     subst (λ (side : RightSide). Adds (SpellsBehind c.args.before side) c.args.before (c.args.before + item_count side) c.option_of-in-Star.result c.args.links.now.items c.connect.new.links.items) (sym e)
-    (star_adds c.in_ok-part-in-Star.ensures c.option_of-in-Star.result c.option_of-in-Star.ensures.end c.option_of-in-Star.ensures.part k)
+    (star_adds c.in_ok-once-in-Star.ensures c.option_of-in-Star.result c.option_of-in-Star.ensures.end c.option_of-in-Star.ensures.part k)
 
 pub part_of-returns-in_ok-connect-in-Plus : goal.part_of-returns-in_ok-connect-in-Plus
 part_of-returns-in_ok-connect-in-Plus t c =
