@@ -19,6 +19,7 @@ abbrev mutual
   categories (star inside) = categories inside
   categories (plus inside) = categories inside
 
+  -- those of some right sides, one after the other
   pub categories_of : RightSides → List Name
   categories_of no_side = []
   categories_of (and_side side sides) = categories side ++ categories_of sides
@@ -81,6 +82,7 @@ abbrev mutual
   HasEmptyStar (star inside) = AllowsEmpty inside ⊎ HasEmptyStar inside
   HasEmptyStar (plus inside) = AllowsEmpty inside ⊎ HasEmptyStar inside
 
+  -- so does one of these
   pub SomeHasEmptyStar : RightSides → Type 0
   SomeHasEmptyStar no_side = ⊥
   SomeHasEmptyStar (and_side side sides) = HasEmptyStar side ⊎ SomeHasEmptyStar sides

@@ -16,10 +16,12 @@ abbrev mutual
   allows_empty (star inside) = true
   allows_empty (plus inside) = allows_empty inside
 
+  -- each of them does
   pub all_allow_empty : RightSides → Bool
   all_allow_empty no_side = true
   all_allow_empty (and_side part parts) = allows_empty part && all_allow_empty parts
 
+  -- one of them does
   pub some_allows_empty : RightSides → Bool
   some_allows_empty no_side = false
   some_allows_empty (and_side branch branches) = allows_empty branch || some_allows_empty branches
@@ -34,6 +36,7 @@ abbrev mutual
   has_empty_star (star inside) = allows_empty inside || has_empty_star inside
   has_empty_star (plus inside) = allows_empty inside || has_empty_star inside
 
+  -- that of one of them does
   pub some_has_empty_star : RightSides → Bool
   some_has_empty_star no_side = false
   some_has_empty_star (and_side side sides) = has_empty_star side || some_has_empty_star sides

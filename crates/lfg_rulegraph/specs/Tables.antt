@@ -5,16 +5,19 @@ use Rattle.std.specs.List.{flat_map}
 use Rattle.lfg_rulegraph.specs.declared.part.Link.{Link}
 use Rattle.lfg_model.specs.Lists.{In}
 
--- item p may follow item q
+-- the link from item q to item p
 abbrev pub link : ℕ → ℕ → Link
 link q p = record { from = q; to = p }
 
+-- what is known of a part: whether it spells the empty row, the items that may begin a row and those
+-- that may end one, and the links from an item to one that may follow it
 pub record Table : Type 0 where
   pub empty : Bool
   pub first : List ℕ
   pub last : List ℕ
   pub links : List Link
 
+-- item p may follow item q
 abbrev pub Linked : Table → ℕ → ℕ → Type 0
 Linked t q p = In (link q p) t.links
 

@@ -98,7 +98,13 @@ fn graph_of(alloc: Global, part: Part, links: &[Link]) -> Result<Graph, AllocErr
     })
 }
 
-/// The graph of a right side.
+/// The graph of a right side: it walks exactly the rows of items that the right side spells.
+///
+/// # Errors
+///
+/// `EmptyStar` exactly where what is inside some star or plus allows a row without a category. Else
+/// `EmptyRule` exactly where the whole right side does. `Memory` for want of memory, and where the
+/// number of an item is past 32 bits.
 pub fn graph(alloc: Global, rhs: &Rhs) -> Result<Graph, GraphFault>
     ensures graph { IfOk result (λ graph. IsGraphOf (right_side_of rhs.now) graph) }
     ensures refused { IfErr result (λ fault. IsRefused (right_side_of rhs.now) fault) }

@@ -125,16 +125,8 @@ pub(crate) fn option_of(part: Part) -> Part
     ensures part { (links : List Link) → table_of result links ≡ option_of (table_of part links) }
     ensures end { result.end ≡ part.end }
 {
-    let Part {
-        end,
-        first,
-        last,
-        ..
-    } = part;
     Part {
-        end,
         empty: true,
-        first,
-        last,
+        ..part
     }
 }
