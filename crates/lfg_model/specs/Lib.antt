@@ -5,6 +5,7 @@ pub mod Drafts
 pub mod EntryNotation
 pub mod Equal
 pub mod Examples
+pub mod Graphs
 pub mod Lists
 pub mod Literals
 pub mod ManWalks
@@ -20,7 +21,9 @@ pub mod RightSideNotation
 pub mod RightSides
 pub mod SchemaNotation
 pub mod Rounds
+pub mod Sequences
 pub mod Solve
+pub mod Spelling
 pub mod Terms
 pub mod Thin
 pub mod ThinText

@@ -6,6 +6,7 @@ use Rattle.lfg_terms.specs.declared.path_expr.PathExpr.TheOpen.{PathExpr-F}
 use Rattle.lfg_terms.specs.declared.path_expr.PathExpr.TheOpen as layer
 use Rattle.lfg_terms.specs.declared.path_expr.PathExpr.TheFolds.{fold-PathExpr}
 use Rattle.lfg_model.specs.Lists.{In, Once}
+pub use Rattle.lfg_model.specs.Sequences.{Joins, Repeats, no_more, once_more}
 use Rattle.lfg_model.specs.Terms.{Name, Path}
 
 -- ---- the plain form
@@ -47,19 +48,6 @@ abbrev pub expressions_of : List PathExpr → PathExpressions
 expressions_of paths = expressions_from (map expression_of paths)
 
 -- ---- the strings of a path expression
-
--- w is two strings joined, of which the front has P and the back has Q
-pub record Joins (P Q : Path → Type 0) (w : Path) : Type 0 where
-  pub front : Path
-  pub back : Path
-  pub is : w ≡ front ++ back
-  pub first : P front
-  pub second : Q back
-
--- w is any number of strings joined, each of which has P
-pub data Repeats (P : Path → Type 0) : Path → Type 0 where
-  no_more : Repeats P []
-  once_more : {u v w : Path} → P u → Repeats P v → w ≡ u ++ v → Repeats P w
 
 -- w is a string of the path expression, by cases on its form
 abbrev mutual

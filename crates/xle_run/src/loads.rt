@@ -5,11 +5,12 @@ ghost use Rattle.lfg_io.specs.Shelf.{Files, file_in};
 ghost use Rattle.lfg_model.specs.Output.{IfBadGrammar, IfTooLong, IsFaultOf};
 ghost use Rattle.lfg_model.specs.Thin.{IsThinGrammar};
 ghost use Rattle.xle_run.specs.Causes.{IsRefused};
-ghost use Rattle.xle_run.specs.Loads.{GivesGrammar, IsFile, IsLongFile, RefusesGrammar};
+ghost use Rattle.xle_run.specs.Loads.{GivesGrammar, IsFile, IsLongFile, IsTold, RefusesGrammar};
 
 use crate::thin::thin_grammar;
 use lfg_io::{Shelf, ShelfFault};
 use lfg_model::{GrammarFault, Status};
+use lfg_notation::{DraftFault, read_grammar_text};
 use lfg_terms::{Grammar, Name};
 use std::alloc::{AllocError, Global};
 
@@ -71,13 +72,28 @@ pub(crate) fn bad_file(alloc: Global, name: &str, fault: GrammarFault) -> Status
     }
 }
 
-/// Why a file that is not thin is not accepted.
+/// The fault as a status tells it.
+fn told(fault: DraftFault) -> Result<GrammarFault, AllocError>
+    ensures { IfOk result (IsTold fault) }
+{
+    match fault {
+        DraftFault::NotUtf8 { at } => Ok(GrammarFault::NotUtf8 { at }),
+        DraftFault::NoToken { at } => Ok(GrammarFault::NoToken { at }),
+        DraftFault::Section { number } => Ok(GrammarFault::Section { number }),
+        DraftFault::Entry { number } => Ok(GrammarFault::Entry { number }),
+        DraftFault::Memory => Err(AllocError),
+    }
+}
+
+/// Why a file that is not thin is not accepted: the fault of its notation, or that it is not thin.
 fn grammar_fault(alloc: Global, bytes: &[u8]) -> Result<GrammarFault, AllocError>
     requires { length bytes.now ≤ 4194304 }
     ensures { IfOk result (IsFaultOf bytes.now) }
 {
-    let _name = Name::new(alloc, "")?;
-    Ok(GrammarFault::Entry { number: 0 })
+    match read_grammar_text(alloc, bytes) {
+        Ok(_) => Ok(GrammarFault::Entry { number: 0 }),
+        Err(fault) => told(fault),
+    }
 }
 
 /// The status of a grammar file that is not thin.
