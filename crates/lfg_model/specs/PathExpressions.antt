@@ -1,6 +1,6 @@
 -- Path expressions as plain data, and the strings of attributes that they stand for (functional
 -- uncertainty, after Kaplan and Maxwell 1988).
-use Rattle.std.specs.Prelude.{◌≡◌, ℕ, ◌≤◌, ◌<◌, ◌⊎◌, Bool, true, false, ◌&&◌, IsTrue, List, [], ◌∷◌, ◌++◌, length, map}
+use Rattle.std.specs.Prelude.{◌≡◌, ℕ, ◌≤◌, ◌<◌, ◌⊎◌, Bool, true, false, ◌&&◌, IsTrue, List, [], ◌∷◌, length, map}
 use Rattle.lfg_terms.specs.declared.path_expr.PathExpr.{PathExpr}
 use Rattle.lfg_terms.specs.declared.path_expr.PathExpr.TheOpen.{PathExpr-F}
 use Rattle.lfg_terms.specs.declared.path_expr.PathExpr.TheOpen as layer

@@ -16,7 +16,8 @@ fn is_among(items: &[u32], item: u32) -> bool
     items.binary_search(&item).is_ok()
 }
 
-/// Whether item `p` may follow item `q`, or begin a row where `q` is 0. Takes one step and no memory.
+/// Whether item `p` may follow item `q`, or begin a row where `q` is 0. Takes one step, and no
+/// memory.
 pub fn follows<L: Ledger>(graph: &Graph, q: u32, p: u32, steps: &mut Steps<L>) -> bool
     requires graph { IsGraph graph.now }
     requires before { q ≤ graph.now.size }
