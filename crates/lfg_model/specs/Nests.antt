@@ -5,7 +5,6 @@ use Rattle.lfg_model.specs.declared.lexeme.Lexeme.{Lexeme}
 use Rattle.lfg_model.specs.declared.lexeme.Lexeme.TheVariants.{Bar, CloseBrace}
 
 infixl 10 ◌>>=◌
-
 -- what comes of the thing that was found, if one was
 abbrev pub ◌>>=◌ : {A B : Type 0} → Option A → (A → Option B) → Option B
 (Some x) >>= f = f x

@@ -31,12 +31,7 @@ fn function_at(lexemes: &[Lexeme]) -> Option<(&Name, &[Lexeme])>
     ensures shorter { IfSome result (λ x. length x.1.now < length lexemes.now) }
 {
     match lexemes {
-        [
-            Lexeme::Up,
-            Lexeme::Word(name),
-            Lexeme::Close,
-            rest @ ..,
-        ] => Some((name, rest)),
+        [Lexeme::Up, Lexeme::Word(name), Lexeme::Close, rest @ ..] => Some((name, rest)),
         _ => None,
     }
 }

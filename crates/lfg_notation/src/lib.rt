@@ -16,6 +16,8 @@ mod schemata;
 mod sections;
 mod settings;
 mod templates;
+#[cfg(test)]
+mod tests;
 mod values;
 mod words;
 

@@ -142,10 +142,7 @@ pub(crate) fn path_at(
 
 /// The branches up to the brace that closes them, and what is behind it.
 #[cycle(path)]
-fn branches_at(
-    alloc: Global,
-    lexemes: &[Lexeme],
-) -> Result<(Vec<PathExpr>, &[Lexeme]), Refusal>
+fn branches_at(alloc: Global, lexemes: &[Lexeme]) -> Result<(Vec<PathExpr>, &[Lexeme]), Refusal>
     ensures read { Gives (λ x. (map expression_of x.0.items, x.1.now)) result ((readers paths).branches lexemes.now) }
     ensures shorter { IfOk result (λ x. length x.1.now < length lexemes.now) }
 {

@@ -219,10 +219,7 @@ fn term_at(alloc: Global, lexemes: &[Lexeme]) -> Result<(Rhs, &[Lexeme]), Refusa
 
 /// The terms in front, of which there is one at least, and what is behind them.
 #[cycle(terms)]
-pub(crate) fn terms_at(
-    alloc: Global,
-    lexemes: &[Lexeme],
-) -> Result<(Vec<Rhs>, &[Lexeme]), Refusal>
+pub(crate) fn terms_at(alloc: Global, lexemes: &[Lexeme]) -> Result<(Vec<Rhs>, &[Lexeme]), Refusal>
     ensures read { Gives (λ x. (map right_side_of x.0.items, x.1.now)) result ((readers terms).row lexemes.now) }
     ensures shorter { IfOk result (λ x. length x.1.now < length lexemes.now) }
 {

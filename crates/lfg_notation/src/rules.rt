@@ -44,11 +44,7 @@ fn rule_for(
 }
 
 /// The rule that the entry of this number is.
-pub(crate) fn rule_of(
-    alloc: Global,
-    number: u32,
-    lexemes: &[Lexeme],
-) -> Result<DraftRule, Refusal>
+pub(crate) fn rule_of(alloc: Global, number: u32, lexemes: &[Lexeme]) -> Result<DraftRule, Refusal>
     ensures { Gives rule_form result (rule_of number lexemes.now) }
 {
     let [Lexeme::Word(cat), Lexeme::Arrow, rest @ ..] = lexemes else {

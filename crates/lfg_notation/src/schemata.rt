@@ -127,10 +127,7 @@ fn behind_left(
 }
 
 /// The designator that leads nowhere, behind `~`, and what is behind it.
-fn negated_at(
-    alloc: Global,
-    lexemes: &[Lexeme],
-) -> Result<(Schema<PathExpr>, &[Lexeme]), Refusal>
+fn negated_at(alloc: Global, lexemes: &[Lexeme]) -> Result<(Schema<PathExpr>, &[Lexeme]), Refusal>
     ensures read { Gives (λ x. (draft_schema_of x.0, x.1.now)) result (negated_at lexemes.now) }
     ensures shorter { IfOk result (λ x. length x.1.now < length lexemes.now) }
 {

@@ -210,11 +210,7 @@ fn words_of(alloc: Global, key: &Name, lexemes: &[Lexeme]) -> Result<Vec<Name>, 
 }
 
 /// The setting that the entry of this number is.
-pub(crate) fn setting_of(
-    alloc: Global,
-    number: u32,
-    lexemes: &[Lexeme],
-) -> Result<Setting, Refusal>
+pub(crate) fn setting_of(alloc: Global, number: u32, lexemes: &[Lexeme]) -> Result<Setting, Refusal>
     ensures { Gives (λ s. s) result (setting_of number lexemes.now) }
 {
     let [Lexeme::Word(key), rest @ ..] = lexemes else {

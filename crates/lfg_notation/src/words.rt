@@ -17,10 +17,7 @@ use lfg_terms::{LexEntry, List, Name, PathExpr, Schema};
 use std::alloc::Global;
 
 /// The annotation of a reading, which may be absent.
-fn maybe_annotation(
-    alloc: Global,
-    lexemes: &[Lexeme],
-) -> Result<Vec<Schema<PathExpr>>, Refusal>
+fn maybe_annotation(alloc: Global, lexemes: &[Lexeme]) -> Result<Vec<Schema<PathExpr>>, Refusal>
     ensures { Gives branch_of result (maybe_annotation lexemes.now) }
 {
     if lexemes.is_empty() {
