@@ -1,6 +1,7 @@
 -- A grammar as its file has it, as plain data.
 use Rattle.std.specs.Prelude.{ℕ, List, map}
 use Rattle.lfg_terms.specs.declared.draft.Draft.{Draft}
+use Rattle.lfg_terms.specs.declared.draft.Plain.{Plain}
 use Rattle.lfg_terms.specs.declared.draft.DraftRule.{DraftRule}
 use Rattle.lfg_terms.specs.declared.draft.LexEntry.{LexEntry}
 use Rattle.lfg_terms.specs.declared.draft.Setting.{Setting}
@@ -35,6 +36,12 @@ pub record DraftForm : Type 0 where
   pub templates : List TemplateForm
   pub words : List WordForm
 
+-- a grammar without templates, each list in written order
+pub record PlainForm : Type 0 where
+  pub settings : List Setting
+  pub rules : List RuleForm
+  pub words : List WordForm
+
 -- the plain forms of the parts of a draft of the program, and of the draft
 abbrev pub rule_form : DraftRule → RuleForm
 rule_form r = record { entry = r.entry; cat = r.cat; side = right_side_of r.rhs }
@@ -47,3 +54,7 @@ word_form x = record { entry = x.entry; form = x.form; cat = x.cat; annotation =
 
 abbrev pub draft_form : Draft → DraftForm
 draft_form d = record { settings = d.settings; rules = map rule_form d.rules; templates = map template_form d.templates; words = map word_form d.entries }
+
+-- the plain form of a draft of the program without templates
+abbrev pub plain_form : Plain → PlainForm
+plain_form p = record { settings = p.settings; rules = map rule_form p.rules; words = map word_form p.entries }

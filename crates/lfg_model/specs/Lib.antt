@@ -32,3 +32,5 @@ pub mod Pieces
 pub mod Tokens
 pub mod Trees
 pub mod Unambiguous
+pub mod Templates
+pub mod TemplateRules

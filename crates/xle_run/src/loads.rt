@@ -90,10 +90,10 @@ fn grammar_fault(alloc: Global, bytes: &[u8]) -> Result<GrammarFault, AllocError
     requires { length bytes.now ≤ 4194304 }
     ensures { IfOk result (IsFaultOf bytes.now) }
 {
-    match read_grammar_text(alloc, bytes) {
-        Ok(_) => Ok(GrammarFault::Entry { number: 0 }),
-        Err(fault) => told(fault),
-    }
+    let Err(fault) = read_grammar_text(alloc, bytes) else {
+        return Ok(GrammarFault::Entry { number: 0 });
+    };
+    told(fault)
 }
 
 /// The status of a grammar file that is not thin.
