@@ -70,10 +70,6 @@ fn readings_by<F: Shelf, O: Sink>(
     };
     match thin_text(&bytes) {
         Some(text) => write_text(alloc, out, grammar, text),
-        None => Err(bad_file(
-            alloc,
-            sentences,
-            GrammarFault::Entry { number: 0 },
-        )),
+        None => Err(bad_file(alloc, sentences, GrammarFault::Entry { number: 0 })),
     }
 }

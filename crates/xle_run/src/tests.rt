@@ -178,6 +178,70 @@ fn refuses_a_file_that_is_not_thin(rt: HostRuntime) -> Result<(), Fail> {
     Ok(())
 }
 
+/// The status of a grammar file with this fault.
+fn bad_grammar(alloc: Global, fault: GrammarFault) -> Result<Status, AllocError> {
+    Ok(Status::BadGrammar {
+        name: Name::new(alloc, "p.lfg")?,
+        fault,
+    })
+}
+
+#[test]
+fn tells_the_first_fault_of_a_grammar_file(rt: HostRuntime) -> Result<(), Fail> {
+    let alloc = rt.alloc();
+    let command = ["readings", "p.lfg", "s.txt"];
+    let text = "the man walks\n";
+    let entry = with_part(alloc, TOY, "NP --> D N", "NP --> D. N")?;
+    let status = bad_grammar(alloc, GrammarFault::Entry { number: 4 })?;
+    assert_refused(
+        &rt,
+        &command,
+        entry.as_str(),
+        text,
+        status,
+        "xle: p.lfg: Entry 4\n",
+    )?;
+    let token = with_part(alloc, TOY, "TOY P CONFIG", "#TOY P CONFIG")?;
+    let status = bad_grammar(alloc, GrammarFault::NoToken { at: 0 })?;
+    assert_refused(
+        &rt,
+        &command,
+        token.as_str(),
+        text,
+        status,
+        "xle: p.lfg: NoToken 0\n",
+    )?;
+    let section = with_part(alloc, TOY, "pres.\n----", "pres.\n")?;
+    let status = bad_grammar(alloc, GrammarFault::Section { number: 3 })?;
+    assert_refused(
+        &rt,
+        &command,
+        section.as_str(),
+        text,
+        status,
+        "xle: p.lfg: Section 3\n",
+    )?;
+    Ok(())
+}
+
+#[test]
+fn refuses_a_file_that_is_too_long(rt: HostRuntime) -> Result<(), Fail> {
+    let alloc = rt.alloc();
+    let long = "x".repeat(alloc, 4_194_305)?;
+    let status = Status::FileTooLong {
+        name: Name::new(alloc, "p.lfg")?,
+    };
+    assert_refused(
+        &rt,
+        &["readings", "p.lfg", "s.txt"],
+        long.as_str(),
+        "the man walks\n",
+        status,
+        "xle: too long: p.lfg\n",
+    )?;
+    Ok(())
+}
+
 #[test]
 fn refuses_words_and_files_that_are_not_there(rt: HostRuntime) -> Result<(), Fail> {
     let missing = Status::ReadFault {
