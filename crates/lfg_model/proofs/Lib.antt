@@ -19,6 +19,7 @@ pub mod ManWalksFacts
 pub mod ManWalksLaws
 pub mod ManWalksTree
 pub mod Names
+pub mod NestCases
 pub mod NestLaws
 pub mod NestTurns
 pub mod Numbered
