@@ -24,6 +24,7 @@ pub mod NestLaws
 pub mod NestTurns
 pub mod Numbered
 pub mod OneTree
+pub mod PathCases
 pub mod PathNotationLaws
 pub mod PathViews
 pub mod ReadingLaws
