@@ -31,6 +31,7 @@ pub mod ReadingLaws
 pub mod RightSideNotationLaws
 pub mod RightSideViews
 pub mod RoundLaws
+pub mod SchemaCases
 pub mod SchemaNotationLaws
 pub mod Settling
 pub mod SolutionLaws

@@ -68,7 +68,7 @@ part_begins (part_name r) = refl
 part_begins (part_branches b r) = refl
 part_begins (part_row s r) = refl
 
-path_begins : {ls us : List Lexeme} {ps : List PathExpression} → IsPath ls ps us → begins_path ls ≡ true
+pub path_begins : {ls us : List Lexeme} {ps : List PathExpression} → IsPath ls ps us → begins_path ls ≡ true
 path_begins (last_part s) = part_begins s
 path_begins (more_parts s t) = part_begins s
 
