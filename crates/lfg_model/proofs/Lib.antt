@@ -28,6 +28,7 @@ pub mod PathCases
 pub mod PathNotationLaws
 pub mod PathViews
 pub mod ReadingLaws
+pub mod RightSideCases
 pub mod RightSideNotationLaws
 pub mod RightSideViews
 pub mod RoundLaws
