@@ -10,6 +10,7 @@ pub mod Lists
 pub mod Literals
 pub mod ManWalks
 pub mod Nests
+pub mod NotationCases
 pub mod Output
 pub mod PairTexts
 pub mod PathExpressions

@@ -1,13 +1,13 @@
 -- What a grammar draft has to keep so that its templates can be expanded, and the first place at
 -- which it does not.
 use Rattle.std.specs.Prelude.{◌≡◌, ◌≢◌, ℕ, suc, ◌+◌, ◌<◌, ◌≤◌, ◌⊎◌, nat_lt, cond, Option, Some, None, List, [], ◌∷◌, ◌++◌, length, map}
-use Rattle.std.specs.List.{flat_map}
+use Rattle.std.specs.List.{flat_map, sum_by}
 use Rattle.lfg_model.specs.Lists.{In}
 use Rattle.lfg_model.specs.Terms.{Name}
 use Rattle.lfg_model.specs.RightSides.{DraftSchema, define, constrain, exists, member, mark, either, maybe, call, DraftAnnotation, no_schema, and_schema, DraftBranches, no_branch, or_branch, RightSide, RightSides, item, optional, no_side, and_side}
 use Rattle.lfg_model.specs.RightSides as side
 use Rattle.lfg_model.specs.DraftForms.{TemplateForm, RuleForm, WordForm, DraftForm, PlainForm}
-use Rattle.lfg_model.specs.Templates.{template_named}
+use Rattle.lfg_model.specs.Templates.{template_named, Expands}
 
 -- ---- written order
 
@@ -20,6 +20,12 @@ pub record FirstWritten {X : Type 0} (entry : X → ℕ) (P : X → Type 0) (xs 
   pub has : P x
   pub before : (y : X) → In y front → P y → entry x < entry y
   pub behind : (y : X) → In y back → P y → entry x ≤ entry y
+
+-- the name is that of the first with P in written order
+pub record FirstNamed {X : Type 0} (entry : X → ℕ) (naming : X → Name) (P : X → Type 0) (xs : List X) (name : Name) : Type 0 where
+  pub first : X
+  pub is : FirstWritten entry P xs first
+  pub named : naming first ≡ name
 
 -- nothing in the list has P
 abbrev pub NoneHas : {X : Type 0} → (X → Type 0) → List X → Type 0
@@ -62,9 +68,12 @@ reading_head r = record { entry = r.entry; name = r.form; params = [] }
 abbrev pub heads : DraftForm → List Headed
 heads d = headed (map rule_head d.rules) ++ headed (map template_head d.templates) ++ headed (map reading_head d.words)
 
--- the number of the entry that is headed
+-- the number of the entry that is headed, and the name that heads it
 abbrev pub head_entry : Headed → ℕ
 head_entry h = h.head.entry
+
+abbrev pub head_name : Headed → Name
+head_name h = h.head.name
 
 -- something stands in the list twice
 pub data Twice {X : Type 0} : List X → Type 0 where
@@ -151,9 +160,12 @@ reading_calls r = map (call_at r.entry) (calls r.annotation)
 abbrev pub draft_calls : DraftForm → List CallAt
 draft_calls d = flat_map rule_calls d.rules ++ flat_map template_calls d.templates ++ flat_map reading_calls d.words
 
--- the number of the entry in which the call stands
+-- the number of the entry in which the call stands, and the name that is called
 abbrev pub call_entry : CallAt → ℕ
 call_entry c = c.entry
+
+abbrev pub call_name : CallAt → Name
+call_name c = c.call.name
 
 -- the call names no template
 abbrev pub IsUndefined : List TemplateForm → CallAt → Type 0
@@ -174,9 +186,12 @@ pub data Reaches (ts : List TemplateForm) : Name → Name → Type 0 where
 abbrev pub IsCyclic : List TemplateForm → TemplateForm → Type 0
 IsCyclic ts t = Reaches ts t.name t.name
 
--- the number of the entry of a template
+-- the number of the entry of a template, and its name
 abbrev pub template_entry : TemplateForm → ℕ
 template_entry t = t.entry
+
+abbrev pub template_name : TemplateForm → Name
+template_name t = t.name
 
 -- ---- the number of schemata
 
@@ -238,8 +253,7 @@ weights p = map rule_weight p.rules ++ map reading_weight p.words
 
 -- how many schemata there are in the entries before this one
 abbrev pub size_before : ℕ → List Weight → ℕ
-size_before entry [] = 0
-size_before entry (w ∷ ws) = cond (nat_lt w.entry entry) w.size 0 + size_before entry ws
+size_before entry ws = sum_by (λ w. cond (nat_lt w.entry entry) w.size 0) ws
 
 -- how many schemata there are in this entry and in those before it
 abbrev pub size_through : ℕ → List Weight → ℕ
@@ -252,9 +266,72 @@ pub record Passes (limit : ℕ) (ws : List Weight) (entry : ℕ) : Type 0 where
 
 -- how many schemata there are
 abbrev pub whole_size : List Weight → ℕ
-whole_size [] = 0
-whole_size (w ∷ ws) = w.size + whole_size ws
+whole_size ws = sum_by (λ w. w.size) ws
 
 -- the greatest number of schemata of the rules and the lexicon entries of an expanded draft
 abbrev pub schema_limit : ℕ
 schema_limit = 400000
+
+-- ---- the rules together
+
+-- nothing heads two entries of a section, and no template names a parameter twice
+abbrev pub NoneRepeated : DraftForm → Type 0
+NoneRepeated d = NoneHas Repeated (heads d)
+
+-- each call names a template
+abbrev pub NoneUndefined : DraftForm → Type 0
+NoneUndefined d = NoneHas (IsUndefined d.templates) (draft_calls d)
+
+-- each call has as many arguments as its template has parameters
+abbrev pub NoneOtherArity : DraftForm → Type 0
+NoneOtherArity d = NoneHas (HasOtherArity d.templates) (draft_calls d)
+
+-- no template calls itself
+abbrev pub NoneCyclic : DraftForm → Type 0
+NoneCyclic d = NoneHas (IsCyclic d.templates) d.templates
+
+-- The draft keeps all rules, and this is what it becomes: the templates have their own names and
+-- parameters, each call fits a template, no template calls itself, and there are not too many
+-- schemata.
+pub record IsExpanded (d : DraftForm) (p : PlainForm) : Type 0 where
+  pub once : NoneRepeated d
+  pub defined : NoneUndefined d
+  pub fitting : NoneOtherArity d
+  pub acyclic : NoneCyclic d
+  pub expands : Expands d p
+  pub few : whole_size (weights p) ≤ schema_limit
+
+-- the name is that of the first head that is repeated, or whose template names a parameter twice
+abbrev pub FirstRepeated : DraftForm → Name → Type 0
+FirstRepeated d name = FirstNamed head_entry head_name Repeated (heads d) name
+
+-- nothing is repeated, and the name is that of the first call that names no template
+pub record FirstUndefined (d : DraftForm) (name : Name) : Type 0 where
+  pub once : NoneRepeated d
+  pub first : FirstNamed call_entry call_name (IsUndefined d.templates) (draft_calls d) name
+
+-- nothing is repeated or not defined, and the name is that of the first call with another number of
+-- arguments than its template has parameters
+pub record FirstOtherArity (d : DraftForm) (name : Name) : Type 0 where
+  pub once : NoneRepeated d
+  pub defined : NoneUndefined d
+  pub first : FirstNamed call_entry call_name (HasOtherArity d.templates) (draft_calls d) name
+
+-- each call fits a template that has its own name, and the name is that of the first template that
+-- calls itself
+pub record FirstCyclic (d : DraftForm) (name : Name) : Type 0 where
+  pub once : NoneRepeated d
+  pub defined : NoneUndefined d
+  pub fitting : NoneOtherArity d
+  pub first : FirstNamed template_entry template_name (IsCyclic d.templates) d.templates name
+
+-- all other rules are kept, and the entry is the first at which what the draft becomes has too many
+-- schemata
+pub record FirstTooMuch (d : DraftForm) (entry : ℕ) : Type 0 where
+  pub once : NoneRepeated d
+  pub defined : NoneUndefined d
+  pub fitting : NoneOtherArity d
+  pub acyclic : NoneCyclic d
+  pub becomes : PlainForm
+  pub expands : Expands d becomes
+  pub passes : Passes schema_limit (weights becomes) entry

@@ -12,7 +12,7 @@ mod token;
 
 pub use constant::Constant;
 pub use lexeme::Lexeme;
-pub use notation::{Repetition, SectionKind, Separator, one_draft};
+pub use notation::{Repetition, SectionKind, Separator, notation_by_cases, one_draft};
 pub use pair::Pair;
 pub use status::{GrammarFault, Status};
 pub use token::{Token, TokenKind, longest_tokens, one_reading};

@@ -1,4 +1,5 @@
 ghost use Rattle.lfg_model.specs.Drafts.{NeverBoth, OneDraft, OneFault};
+ghost use Rattle.lfg_model.specs.NotationCases.{AnnotationsByCases, PathsByCases, RightSidesByCases};
 
 /// How often something stands that may be repeated.
 #[derive(Clone, Copy, Debug, PartialEq, Eq, Drop)]
@@ -40,4 +41,12 @@ pub fn one_draft()
     ensures drafts { OneDraft }
     ensures faults { OneFault }
     ensures never_both { NeverBoth }
+{}
+
+/// Paths, annotations and right sides are read exactly as the table of forms has them, case by
+/// case.
+pub fn notation_by_cases()
+    ensures paths { PathsByCases }
+    ensures annotations { AnnotationsByCases }
+    ensures right_sides { RightSidesByCases }
 {}
