@@ -89,7 +89,7 @@ branch_cases_of nest ls us (_ ∷ vs) xs bs i l e = absurd (let no : ⊥ = cc in
 pub branch_cases : {A B : Type 0} (nest : Nest A B) → GoesDown nest → (ls us : List Lexeme) (bs : List B) → (readers nest).branches ls ≡ Some (bs, us) → BranchCases nest ls us bs
 branch_cases {A} {B} nest d ls us bs e =
     let b = bound ((readers nest).row ls) (λ x. more_branches (readers nest) (nest.branch x.0) x.1) (bs, us)
-        (ap (λ (o : Option (List A × List Lexeme)). o >>= λ x. more_branches (readers nest) (nest.branch x.0) x.1) (row_is nest d ls) ∙ sym (branches_are nest d ls) ∙ e) in
+    (ap (λ (o : Option (List A × List Lexeme)). o >>= λ x. more_branches (readers nest) (nest.branch x.0) x.1) (row_is nest d ls) ∙ sym (branches_are nest d ls) ∙ e) in
     branch_cases_of nest ls us b.0.1 b.0.0 bs b.1 (less_some (length ls) ((readers nest).row ls) b.0.0 b.0.1 ((readers_shrink nest d).row ls) b.1) b.2
 
 pub row_shorter : {A B : Type 0} (nest : Nest A B) → GoesDown nest → (ls us : List Lexeme) (xs : List A) → (readers nest).row ls ≡ Some (xs, us) → length us < length ls
