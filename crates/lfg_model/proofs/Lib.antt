@@ -39,6 +39,10 @@ pub mod Settling
 pub mod SolutionLaws
 pub mod SomeReading
 pub mod SymbolRule
+pub mod ThinCuts
+pub mod ThinDraftLaws
+pub mod ThinSides
+pub mod ThinTokens
 pub mod ThinTreeLaws
 pub mod TreeOrder
 pub mod Within

@@ -27,6 +27,7 @@ pub mod Solve
 pub mod Spelling
 pub mod Terms
 pub mod Thin
+pub mod ThinDrafts
 pub mod ThinText
 pub mod ThinTrees
 pub mod Pieces

@@ -9,6 +9,7 @@ ghost use Rattle.lfg_model.specs.Output.{OneOutput};
 ghost use Rattle.lfg_model.specs.Readings.{ClassesHaveOneName, ReadingsAreOne};
 ghost use Rattle.lfg_model.specs.Rounds.{GrowingRoundsSettle, RoundsGiveEqual};
 ghost use Rattle.lfg_model.specs.Solve.{RoundsGiveSolution};
+ghost use Rattle.lfg_model.specs.ThinDrafts.{ThinFilesAreDrafted};
 ghost use Rattle.lfg_model.specs.ThinTrees.{OneThinDerivation, ThinLeavesNoChoice};
 ghost use Rattle.lfg_model.specs.Unambiguous.{OneDerivation};
 ghost use Rattle.lfg_model.specs.ThinText.{OneThinGrammar, ThinFilesAreThin};
@@ -93,6 +94,12 @@ pub fn the_man_walks()
 pub fn thin_files_have_one_grammar()
     ensures one { OneThinGrammar }
     ensures thin { ThinFilesAreThin }
+{}
+
+/// A thin grammar file is a grammar file of the whole notation, and its draft there is the one that
+/// the thin file gives its grammar from.
+pub fn thin_files_are_drafted()
+    ensures { ThinFilesAreDrafted }
 {}
 
 /// A command over files has one output: one list of sections and one status.
