@@ -1,9 +1,8 @@
 -- The readings of a sentence that has at most one derivation.
-use Rattle.std.proofs.Common.{◌≡◌, ℕ, List, [], ◌∷◌, refl, sym, subst, ap, inl, inr}
+use Rattle.std.proofs.Common.{◌≡◌, List, [], ◌∷◌, sym, subst, inl, inr}
 use Rattle.std.specs.List.Sorted.{IsStrictlySortedBy}
 use Rattle.lfg_terms.specs.Order.{fact_cmp}
 use Rattle.lfg_terms.specs.OrderLaws.{fact_cmp_total}
-use Rattle.lfg_terms.specs.declared.node.Fact.{Fact}
 use Rattle.lfg_terms.specs.declared.grammar.Grammar.{Grammar}
 use Rattle.lfg_terms.specs.declared.tree.TokenForms.{TokenForms}
 use Rattle.lfg_model.specs.declared.pair.Pair.{Pair}
@@ -11,7 +10,6 @@ use Rattle.lfg_model.specs.Lists.{In, here}
 use Rattle.lfg_model.specs.Terms.{Tree}
 use Rattle.lfg_model.specs.Derive.{Whole}
 use Rattle.lfg_model.specs.Trees.{tree_facts}
-use Rattle.lfg_model.specs.PairTexts.{pair_cmp}
 use Rattle.lfg_model.specs.Readings.{Assigned, IsFact, IsPairOf, IsReading, IsReadings, solution_of}
 use Rattle.lfg_model.proofs.Ascending.{one_list, once_from_total}
 use Rattle.lfg_model.proofs.ListLaws.{In-nil, In-cons_cases}

@@ -1,12 +1,9 @@
 -- A text says one draft at most, or is none for one reason; never both, and always one of them.
-use Rattle.std.proofs.Common.{◌≡◌, ℕ, ◌≤◌, Option, Some, None, Result, Ok, Err, List, [], ◌∷◌, length, map, refl, ap, sym, ◌∙◌, arith}
+use Rattle.std.proofs.Common.{◌≡◌, ℕ, ◌≤◌, Result, Ok, Err, List, length, ap, sym, ◌∙◌, arith}
 use Rattle.std.specs.Str.{IsUtf8, chars}
-use Rattle.std.specs.Str.Lossy.{utf8_valid_len}
 use Rattle.std.proofs.lemmas.Str.{encodes-chars}
-use Rattle.lfg_model.specs.declared.lexeme.Lexeme.{Lexeme}
 use Rattle.lfg_model.specs.declared.token.Token.{Token}
-use Rattle.lfg_model.specs.DraftForms.{DraftForm}
-use Rattle.lfg_model.specs.Drafts.{HasTokens, LexemesFault, Drafts, FileFault, not_utf8, no_token, no_lexemes, HasFault, said, lexemes_of, OneDraft, OneFault, NeverBoth}
+use Rattle.lfg_model.specs.Drafts.{HasTokens, not_utf8, no_token, no_lexemes, said, lexemes_of, OneDraft, OneFault, NeverBoth}
 use Rattle.lfg_model.specs.Tokens.{Tokens, done, past_gap, past_token, width}
 use Rattle.lfg_model.proofs.OneReading.{one_row, one_place, not_both}
 use Rattle.lfg_model.proofs.PieceEnds.{piece_shorter, width_len}

@@ -2,7 +2,7 @@
 use Rattle.std.proofs.Common.{◌≡◌, ℕ, ◌<◌, Bool, true, false, cond, Option, Some, None, List, [], ◌∷◌, length, refl, ap, sym, ◌∙◌, subst, arith}
 use Rattle.lfg_model.specs.declared.lexeme.Lexeme.{Lexeme}
 use Rattle.lfg_model.specs.declared.lexeme.Lexeme.TheVariants.{Bar, CloseBrace}
-use Rattle.lfg_model.specs.Nests.{◌>>=◌, Readers, Nest, put, alone, row_by, more_branches, branches_by, readers}
+use Rattle.lfg_model.specs.Nests.{◌>>=◌, Nest, put, alone, more_branches, readers}
 use Rattle.lfg_model.proofs.NestLaws.{Less, GoesDown, row_is, branches_are, readers_shrink, item_shrinks}
 
 pub same_some : {A : Type 0} {x y : A} → Some x ≡ Some y → x ≡ y

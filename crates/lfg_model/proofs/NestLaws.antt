@@ -1,9 +1,9 @@
 -- The readers of a nest satisfy their equations, with no bound on the depth, where an item calls
 -- them on what is shorter alone.
-use Rattle.std.proofs.Common.{◌≡◌, ℕ, zero, suc, ◌<◌, ◌≤◌, Bool, true, false, cond, Option, Some, None, List, [], ◌∷◌, length, refl, ap, sym, ◌∙◌, subst, arith}
+use Rattle.std.proofs.Common.{◌≡◌, ℕ, zero, suc, ◌<◌, ◌≤◌, Bool, true, false, cond, Option, Some, None, List, [], ◌∷◌, length, refl, ap, ◌∙◌, arith}
 use Rattle.lfg_model.specs.declared.lexeme.Lexeme.{Lexeme}
 use Rattle.lfg_model.specs.declared.lexeme.Lexeme.TheVariants.{Bar, CloseBrace}
-use Rattle.lfg_model.specs.Nests.{◌>>=◌, Reader, Readers, Nest, put, alone, row_by, more_branches, branches_by, level, readers}
+use Rattle.lfg_model.specs.Nests.{◌>>=◌, Readers, Nest, put, alone, row_by, more_branches, branches_by, level, readers}
 
 -- what was read leaves fewer than n lexemes
 abbrev pub Less : {A : Type 0} → ℕ → Option (A × List Lexeme) → Type 0

@@ -3,7 +3,7 @@ use Rattle.std.proofs.Common.{◌≡◌, Bool, true, false, cond, Option, Some, 
 use Rattle.std.proofs.lemmas.List.{map-append}
 use Rattle.lfg_model.specs.declared.lexeme.Lexeme.{Lexeme}
 use Rattle.lfg_model.specs.declared.lexeme.Lexeme.TheVariants.{Bar, CloseBrace}
-use Rattle.lfg_model.specs.Nests.{◌>>=◌, Reader, Readers, Nest, put, alone, row_by, more_branches, ends_branch, readers}
+use Rattle.lfg_model.specs.Nests.{◌>>=◌, Readers, Nest, put, alone, more_branches, ends_branch, readers}
 use Rattle.lfg_model.proofs.NestLaws.{GoesDown, row_is, branches_are}
 
 -- what was read, behind what had been read before

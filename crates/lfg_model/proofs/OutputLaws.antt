@@ -1,17 +1,16 @@
 -- A command over files has one output.
-use Rattle.std.proofs.Common.{◌≡◌, ℕ, suc, ◌<◌, ◌≤◌, List, [], ◌∷◌, ◌++◌, Option, Some, None, refl, sym, ap, subst, ◌∙◌, arith, length}
+use Rattle.std.proofs.Common.{◌≡◌, ℕ, suc, ◌<◌, ◌≤◌, List, [], ◌∷◌, Option, Some, None, refl, sym, ap, subst, ◌∙◌, arith, length}
 use Rattle.std.specs.Prelude.{Result, Ok, Err}
 use Rattle.std.specs.List.{flat_map}
 use Rattle.lfg_terms.specs.declared.grammar.Grammar.{Grammar}
-use Rattle.lfg_model.specs.declared.pair.Pair.{Pair}
 use Rattle.lfg_model.specs.declared.status.GrammarFault.{GrammarFault}
 use Rattle.lfg_model.specs.declared.status.Status.{Status}
-use Rattle.lfg_model.specs.declared.status.Status.TheVariants.{Done, Usage, ReadFault, FileTooLong, BadGrammar, WriteFault, Memory}
+use Rattle.lfg_model.specs.declared.status.Status.TheVariants.{Done, BadGrammar}
 use Rattle.lfg_model.specs.declared.token.Token.{Token}
 use Rattle.lfg_model.specs.DraftForms.{DraftForm}
 use Rattle.lfg_model.specs.Drafts.{Drafts, FileFault, not_utf8, no_token, no_lexemes, LexemesFault, HasFault, said, lexemes_of}
 use Rattle.lfg_model.specs.PairTexts.{pair_text}
-use Rattle.lfg_model.specs.ThinText.{ThinFile, ThinSentences, words, token_of}
+use Rattle.lfg_model.specs.ThinText.{ThinFile, ThinSentences}
 use Rattle.lfg_model.specs.Output.{Command, readings, section, AreSections, none, more, AreReadings, file_limit, fault_of, IsFaultOf, at_fault, not_thin, IsOutput, usage, no_grammar, long_grammar, bad_grammar, no_sentences, long_sentences, bad_sentences, all_read, sentences_of, AreAccepted, both_thin, IfBadGrammar, IfTooLong, OneOutput}
 use Rattle.lfg_model.proofs.OneReading.{one_row, not_both, one_place}
 use Rattle.lfg_model.proofs.OneTree.{same_some}

@@ -1,16 +1,15 @@
 -- Paths are read as the cases say.
-use Rattle.std.proofs.Common.{◌≡◌, ℕ, zero, suc, ◌<◌, ◌≤◌, ◌+◌, ◌*◌, Bool, true, false, cond, Option, Some, None, List, [], ◌∷◌, length, refl, ap, sym, ◌∙◌, subst, arith}
+use Rattle.std.proofs.Common.{◌≡◌, ℕ, zero, suc, ◌<◌, ◌≤◌, ◌+◌, ◌*◌, Bool, true, false, Option, Some, List, [], ◌∷◌, length, refl, ap, ◌∙◌, subst, arith}
 use Rattle.lfg_model.specs.declared.lexeme.Lexeme.{Lexeme}
-use Rattle.lfg_model.specs.declared.lexeme.Lexeme.TheVariants.{Word, Close, OpenBracket, CloseBracket, OpenBrace, CloseBrace, Bar, Star, Plus}
+use Rattle.lfg_model.specs.declared.lexeme.Lexeme.TheVariants.{Word, OpenBracket, CloseBracket, OpenBrace, CloseBrace, Bar, Star, Plus}
 use Rattle.lfg_model.specs.declared.notation.Repetition.{Repetition}
-use Rattle.lfg_model.specs.declared.notation.Repetition.TheVariants.{Once, AnyTimes, OnceOrMore}
-use Rattle.lfg_model.specs.Terms.{Name}
+use Rattle.lfg_model.specs.declared.notation.Repetition.TheVariants.{Once}
 use Rattle.lfg_model.specs.PathExpressions.{PathExpression, attribute, one_of, expressions_from}
 use Rattle.lfg_model.specs.Nests.{◌>>=◌, readers}
 use Rattle.lfg_model.specs.PathNotation.{repetition_at, repeat_path, repeated_path, path_row, closed_path, part_by, begins_path, paths}
 use Rattle.lfg_model.specs.RightSideNotation.{closes_term}
 use Rattle.lfg_model.specs.NotationCases.{IsRepetition, once, any_times, once_or_more, IsPart, part_name, part_branches, part_row, IsPath, last_part, more_parts, IsPathBranches, last_path, more_paths, PathsByCases}
-use Rattle.lfg_model.proofs.NestCases.{same_some, bound, row_last, row_more, branches_last, branches_more, RowCases, one, more, row_cases, BranchCases, one as one_branch, more as more_branch, branch_cases, row_shorter}
+use Rattle.lfg_model.proofs.NestCases.{same_some, bound, row_last, row_more, branches_last, branches_more, RowCases, one, more, row_cases, BranchCases, one as one_branch, more as more_branch, branch_cases}
 use Rattle.lfg_model.proofs.PathNotationLaws.{paths_down}
 
 -- ---- signs of repetition

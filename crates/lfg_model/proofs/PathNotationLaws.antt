@@ -1,10 +1,10 @@
 -- The parts of paths go down.
-use Rattle.std.proofs.Common.{◌≡◌, ◌≤◌, Option, Some, None, List, [], ◌∷◌, suc, length, refl, ap, arith}
+use Rattle.std.proofs.Common.{◌≡◌, ◌≤◌, Option, Some, List, [], ◌∷◌, suc, length, refl, ap, arith}
 use Rattle.lfg_model.specs.declared.lexeme.Lexeme.{Lexeme}
 use Rattle.lfg_model.specs.declared.lexeme.Lexeme.TheVariants.{Word, OpenBracket, CloseBracket, OpenBrace, Star, Plus}
-use Rattle.lfg_model.specs.PathExpressions.{PathExpression, attribute, one_of, expressions_from}
+use Rattle.lfg_model.specs.PathExpressions.{PathExpression, one_of, expressions_from}
 use Rattle.lfg_model.specs.Nests.{◌>>=◌, Readers}
-use Rattle.lfg_model.specs.PathNotation.{repetition_at, repeated_path, path_row, closed_path, part_by, paths}
+use Rattle.lfg_model.specs.PathNotation.{repetition_at, repeated_path, closed_path, part_by, paths}
 use Rattle.lfg_model.proofs.NestLaws.{Less, Shrinks, Agree, GoesDown, less_bind, less_weaker}
 
 pub repetition_le : (ls : List Lexeme) → length (repetition_at ls).1 ≤ length ls

@@ -8,7 +8,7 @@ use Rattle.lfg_model.specs.RightSides.{DraftSchema, RightSide, item, optional, o
 use Rattle.lfg_model.specs.Nests.{◌>>=◌, readers}
 use Rattle.lfg_model.specs.PathNotation.{repetition_at}
 use Rattle.lfg_model.specs.SchemaNotation.{schemata}
-use Rattle.lfg_model.specs.RightSideNotation.{repeat_side, ended_term, repeated_term, side_row, closes_term, annotated_term, annotated, behind_category, category_at, closed_optional, closed_row, term_by, begins_term, terms}
+use Rattle.lfg_model.specs.RightSideNotation.{repeat_side, ended_term, repeated_term, side_row, closes_term, annotated_term, annotated, behind_category, closed_optional, closed_row, term_by, begins_term, terms}
 use Rattle.lfg_model.specs.NotationCases.{IsRepetition, IsAnnotation, IsEnd, semicolon, no_semicolon, IsTerm, category, annotated_ended, annotated_last, optional_terms, term_branches, term_row, IsTerms, last_term, more_terms, IsTermBranches, last_terms, more_branches, closes_annotation, RightSidesByCases}
 use Rattle.lfg_model.proofs.NestCases.{same_some, bound, row_last, row_more, branches_last, branches_more, RowCases, one, more, row_cases, BranchCases, one as one_branch, more as more_branch, branch_cases}
 use Rattle.lfg_model.proofs.PathCases.{repeats, to_repetition, from_repetition}

@@ -8,8 +8,8 @@ use Rattle.lfg_model.specs.RightSides.{RightSide, item, optional, one_of, right_
 use Rattle.lfg_model.specs.Nests.{◌>>=◌, Readers, readers}
 use Rattle.lfg_model.specs.PathNotation.{repetition_at}
 use Rattle.lfg_model.specs.SchemaNotation.{schemata}
-use Rattle.lfg_model.specs.RightSideNotation.{repeat_side, ended_term, repeated_term, side_row, closes_term, annotated_term, annotated, behind_category, category_at, closed_optional, closed_row, term_by, terms}
-use Rattle.lfg_model.proofs.NestLaws.{Less, Shrinks, Agree, GoesDown, less_bind, less_weaker, pick, readers_shrink}
+use Rattle.lfg_model.specs.RightSideNotation.{repeat_side, ended_term, repeated_term, side_row, annotated_term, annotated, behind_category, closed_optional, closed_row, term_by, terms}
+use Rattle.lfg_model.proofs.NestLaws.{Less, Shrinks, Agree, GoesDown, less_bind, less_weaker, readers_shrink}
 use Rattle.lfg_model.proofs.PathNotationLaws.{repetition_le}
 use Rattle.lfg_model.proofs.SchemaNotationLaws.{schemata_down}
 

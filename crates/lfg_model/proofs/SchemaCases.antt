@@ -8,16 +8,15 @@ use Rattle.lfg_terms.specs.declared.grammar.Form.{Form}
 use Rattle.lfg_terms.specs.declared.grammar.Val.{Val}
 use Rattle.lfg_terms.specs.declared.grammar.Val.TheVariants as val
 use Rattle.lfg_model.specs.declared.lexeme.Lexeme.{Lexeme}
-use Rattle.lfg_model.specs.declared.lexeme.Lexeme.TheVariants.{Word, Open, Close, CloseBracket, OpenBrace, CloseBrace, Bar, Less as LessSign, Greater, Quote, Up, Down, Equals, Constrains, Differs, Not, Dollar, At, Star, Plus, Minus, Semicolon, DoubleColon}
+use Rattle.lfg_model.specs.declared.lexeme.Lexeme.TheVariants.{Word, Open, Close, OpenBrace, CloseBrace, Bar, Less as LessSign, Greater, Quote, Up, Down, Equals, Constrains, Differs, Not, Dollar, At, Star, Plus, Minus, DoubleColon}
 use Rattle.lfg_model.specs.Terms.{Name, same_name}
 use Rattle.lfg_model.specs.PathExpressions.{PathExpression}
-use Rattle.lfg_model.specs.RightSides.{DraftSchema, define, constrain, exists, member, mark, either, maybe, call, DraftAnnotation, draft_annotation_from, draft_branches_from}
+use Rattle.lfg_model.specs.RightSides.{DraftSchema, define, constrain, exists, member, mark, either, DraftAnnotation, draft_branches_from}
 use Rattle.lfg_model.specs.Nests.{◌>>=◌, readers}
 use Rattle.lfg_model.specs.PathNotation.{begins_path, paths}
-use Rattle.lfg_model.specs.SchemaNotation.{Left, bare_des, long_des, bare_left, long_left, ends_in_pred, closed_left, path_behind, long_at, begins_long, begins_des, des_at, value_at, put_name, value_of, value_before, values_at, test_at, form_of, put_function, functions_at, function_arrow, function_name, function_end, quoted, behind_inner, behind_form_name, form_at, right_at, left_alone, behind_left, negated_at, mark_at, closed_call, call_in_brackets, call_at, closed_option, bracketed_by, schema_by, begins_schema, schemata}
-use Rattle.lfg_model.specs.RightSideNotation.{closes_term}
+use Rattle.lfg_model.specs.SchemaNotation.{Left, bare_des, long_des, bare_left, long_left, ends_in_pred, closed_left, long_at, begins_long, begins_des, des_at, value_at, put_name, values_at, test_at, form_of, put_function, functions_at, function_arrow, function_name, function_end, quoted, behind_inner, behind_form_name, form_at, right_at, left_alone, behind_left, negated_at, mark_at, closed_call, call_in_brackets, call_at, closed_option, schema_by, begins_schema, schemata}
 use Rattle.lfg_model.specs.NotationCases.{IsPath, IsArrow, up, down, IsLong, long, IsDes, bare_arrow, with_path, IsValue, value_name, value_plus, value_minus, IsValues, no_value, more_values, IsTest, test_des, test_value, IsFunctions, no_function, more_functions, IsForm, bare_form, form_with, IsSchema, defines, defines_form, constrains, differs, leads, leads_nowhere, belongs, marks, alternatives, optional_schemata, calls, calls_with, IsAnnotation, last_schema, more_schemata, IsAlternatives, last_annotation, more_annotations, closes_annotation, AnnotationsByCases}
-use Rattle.lfg_model.proofs.NestCases.{same_some, bound, row_last, row_more, branches_last, branches_more, RowCases, one, more, row_cases, BranchCases, one as one_branch, more as more_branch, branch_cases, row_shorter}
+use Rattle.lfg_model.proofs.NestCases.{same_some, bound, row_last, row_more, branches_last, branches_more, RowCases, one, more, row_cases, BranchCases, one as one_branch, more as more_branch, branch_cases}
 use Rattle.lfg_model.proofs.PathCases.{path_begins, to_path, path_from}
 use Rattle.lfg_model.proofs.SchemaNotationLaws.{schemata_down}
 

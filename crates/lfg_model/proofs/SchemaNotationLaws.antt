@@ -10,10 +10,10 @@ use Rattle.lfg_model.specs.declared.lexeme.Lexeme.{Lexeme}
 use Rattle.lfg_model.specs.declared.lexeme.Lexeme.TheVariants.{Word, Open, Close, OpenBrace, Less as LessSign, Greater, Quote, Up, Down, Equals, Constrains, Differs, Not, Dollar, At, Star, Plus, Minus, DoubleColon}
 use Rattle.lfg_model.specs.Terms.{Name, same_name}
 use Rattle.lfg_model.specs.PathExpressions.{PathExpression}
-use Rattle.lfg_model.specs.RightSides.{DraftSchema, define, constrain, exists, member, mark, either, maybe, call, DraftAnnotation, draft_annotation_from, draft_branches_from}
+use Rattle.lfg_model.specs.RightSides.{DraftSchema, define, constrain, exists, member, mark, either, DraftAnnotation, draft_branches_from}
 use Rattle.lfg_model.specs.Nests.{◌>>=◌, Readers, readers}
 use Rattle.lfg_model.specs.PathNotation.{paths}
-use Rattle.lfg_model.specs.SchemaNotation.{Left, bare_left, closed_left, path_behind, long_at, begins_long, begins_des, des_at, value_at, put_name, value_of, value_before, values_at, test_at, form_of, put_function, functions_at, function_arrow, function_name, function_end, quoted, behind_inner, behind_form_name, form_at, right_at, behind_left, negated_at, mark_at, closed_call, call_in_brackets, call_at, closed_option, bracketed_by, schema_by, schemata}
+use Rattle.lfg_model.specs.SchemaNotation.{Left, bare_left, closed_left, path_behind, long_at, begins_long, begins_des, des_at, value_at, value_of, value_before, values_at, test_at, form_of, put_function, functions_at, function_arrow, function_name, function_end, quoted, behind_inner, behind_form_name, form_at, right_at, behind_left, negated_at, mark_at, closed_call, call_in_brackets, call_at, closed_option, bracketed_by, schema_by, schemata}
 use Rattle.lfg_model.proofs.NestLaws.{Less, Shrinks, Agree, GoesDown, less_bind, less_weaker, pick, readers_shrink}
 use Rattle.lfg_model.proofs.PathNotationLaws.{paths_down}
 

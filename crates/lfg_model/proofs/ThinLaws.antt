@@ -1,5 +1,5 @@
 -- A thin file says one draft at most, and gives one grammar at most.
-use Rattle.std.proofs.Common.{◌≡◌, ◌≢◌, ℕ, Bool, true, false, Option, Some, None, List, [], ◌∷◌, refl, ap, sym, ◌∙◌, subst}
+use Rattle.std.proofs.Common.{◌≡◌, ◌≢◌, ℕ, Bool, Option, Some, List, [], ◌∷◌, refl, ap, sym, ◌∙◌, subst}
 use Rattle.std.proofs.lemmas.Bool.{false≢true}
 use Rattle.std.proofs.lemmas.Cmp.{nat_list_cmp_total}
 use Rattle.lfg_terms.specs.Order.{name_cmp}
@@ -8,8 +8,8 @@ use Rattle.lfg_model.specs.declared.lexeme.Lexeme.{Lexeme}
 use Rattle.lfg_model.specs.declared.token.Token.{Token}
 use Rattle.lfg_model.specs.Lists.{In, here, later}
 use Rattle.lfg_model.specs.Terms.{Name}
-use Rattle.lfg_model.specs.Thin.{Daughter, Phrase, Equation, Entry, Draft, IsCategory, Gives, IsThinGrammar}
-use Rattle.lfg_model.specs.ThinText.{Row, done, more, is_nothing, is_entry_end, up_to, is_stop, is_divider, IsEnded, IsDaughter, IsEquation, IsPhrase, IsEntry, daughter_at, equation_at, behind_arrow, behind_star, Heading, IsSection, IsFilled, IsConfig, root_at, behind_heading, AreSections, Says, lexemes_of, ThinFile, OneThinGrammar}
+use Rattle.lfg_model.specs.Thin.{Phrase, Entry, Draft, IsCategory, Gives, IsThinGrammar}
+use Rattle.lfg_model.specs.ThinText.{Row, done, more, is_nothing, is_entry_end, up_to, is_stop, is_divider, IsEnded, IsDaughter, IsEquation, IsPhrase, IsEntry, daughter_at, equation_at, behind_arrow, behind_star, Heading, IsSection, IsFilled, IsConfig, root_at, AreSections, Says, lexemes_of, ThinFile, OneThinGrammar}
 use Rattle.lfg_model.proofs.Ascending.{one_list, once_from_total}
 use Rattle.lfg_model.proofs.OneReading.{one_row as same_tokens}
 

@@ -12,7 +12,7 @@ use Rattle.lfg_model.specs.declared.notation.SectionKind.{SectionKind}
 use Rattle.lfg_model.specs.declared.notation.SectionKind.TheVariants.{Config, Rules, Templates, Lexicon}
 use Rattle.lfg_model.specs.Terms.{Name, same_name}
 use Rattle.lfg_model.specs.RightSides.{DraftSchema, DraftAnnotation, no_schema, draft_annotation_from, RightSide}
-use Rattle.lfg_model.specs.Nests.{◌>>=◌, Reader, readers}
+use Rattle.lfg_model.specs.Nests.{◌>>=◌, readers}
 use Rattle.lfg_model.specs.SchemaNotation.{put_name, schemata}
 use Rattle.lfg_model.specs.RightSideNotation.{side_row, terms}
 use Rattle.lfg_model.specs.DraftForms.{RuleForm, TemplateForm, WordForm, DraftForm}

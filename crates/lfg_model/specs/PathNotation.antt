@@ -1,6 +1,6 @@
 -- Path expressions as they are written: names, branches in braces and rows in brackets, each of
 -- which may be repeated.
-use Rattle.std.specs.Prelude.{Bool, true, false, Option, Some, None, List, [], ◌∷◌}
+use Rattle.std.specs.Prelude.{Bool, true, false, Some, None, List, ◌∷◌}
 use Rattle.lfg_model.specs.declared.lexeme.Lexeme.{Lexeme}
 use Rattle.lfg_model.specs.declared.lexeme.Lexeme.TheVariants.{Word, OpenBracket, CloseBracket, OpenBrace, Star, Plus}
 use Rattle.lfg_model.specs.declared.notation.Repetition.{Repetition}

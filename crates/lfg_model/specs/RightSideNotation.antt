@@ -1,5 +1,5 @@
 -- The right sides of rules as they are written.
-use Rattle.std.specs.Prelude.{Bool, true, false, cond, Option, Some, None, List, [], ◌∷◌}
+use Rattle.std.specs.Prelude.{Bool, true, false, cond, Some, None, List, [], ◌∷◌}
 use Rattle.lfg_model.specs.declared.lexeme.Lexeme.{Lexeme}
 use Rattle.lfg_model.specs.declared.lexeme.Lexeme.TheVariants.{Word, Open, Close, OpenBracket, CloseBracket, OpenBrace, CloseBrace, Bar, Semicolon, Colon}
 use Rattle.lfg_model.specs.declared.notation.Repetition.{Repetition}

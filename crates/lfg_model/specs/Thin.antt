@@ -1,5 +1,5 @@
 -- Thin grammars (this project's own): what a thin grammar file says, and the grammar that it gives.
-use Rattle.std.specs.Prelude.{◌≡◌, ◌≢◌, ℕ, zero, suc, ◌+◌, ◌<◌, ◌⊎◌, Bool, true, false, Option, Some, None, List, [], ◌∷◌, length, map, slice_get, codes}
+use Rattle.std.specs.Prelude.{◌≡◌, ◌≢◌, ℕ, zero, suc, ◌<◌, Bool, true, false, Option, Some, None, List, [], ◌∷◌, length, map, slice_get, codes}
 use Rattle.lfg_terms.specs.Order.{name_cmp}
 use Rattle.lfg_terms.specs.declared.grammar.Arrow.TheVariants.{Up, Down}
 use Rattle.lfg_terms.specs.declared.grammar.Val.TheVariants as val
