@@ -10,7 +10,6 @@ use Rattle.lfg_terms.specs.declared.node.Fact.{Fact}
 use Rattle.lfg_terms.specs.declared.tree.TokenForms.{TokenForms}
 use Rattle.lfg_terms.specs.declared.node.Node.{Node}
 use Rattle.lfg_model.specs.Lists.{In, Lists}
-use Rattle.lfg_model.specs.Literals.{checks}
 use Rattle.lfg_model.specs.Readings.{IsFact, IsPairOf}
 use Rattle.lfg_model.specs.Terms.{Name, Tree}
 use Rattle.lfg_model.specs.Trees.{literals, tree_facts}

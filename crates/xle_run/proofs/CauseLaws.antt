@@ -1,7 +1,7 @@
 -- From the failure of one step to that of the whole command.
-use Rattle.std.proofs.Common.{◌≡◌, ℕ, List, [], ◌∷◌, None, sym, subst}
+use Rattle.std.proofs.Common.{◌≡◌, ℕ, List, None, sym, subst}
 use Rattle.std.specs.Prelude.{Some}
-use Rattle.lfg_model.specs.Lists.{In, here, later}
+use Rattle.lfg_model.specs.Lists.{In}
 use Rattle.lfg_model.specs.Output.{Command, command_of, files_of, IfReadFault, IfTooLong, IfBadGrammar}
 use Rattle.lfg_io.specs.Counts.{Rose}
 use Rattle.lfg_model.specs.declared.status.GrammarFault.{GrammarFault}

@@ -1,5 +1,5 @@
 -- From what is known of the files to what is known of the command over them.
-use Rattle.std.proofs.Common.{◌≡◌, ℕ, List, [], ◌∷◌, Some, None, Option, sym, subst, inl, inr}
+use Rattle.std.proofs.Common.{◌≡◌, ℕ, List, [], ◌∷◌, Some, sym, subst, inl, inr}
 use Rattle.std.specs.Prelude.{Result, Ok, Err, IfErr, OnOk, OnErr, ◌⊎◌}
 use Rattle.lfg_io.specs.Shelf.{Files, file_in}
 use Rattle.lfg_terms.specs.declared.grammar.Grammar.{Grammar}
@@ -7,7 +7,7 @@ use Rattle.lfg_model.specs.declared.status.GrammarFault.{GrammarFault}
 use Rattle.lfg_model.specs.declared.status.GrammarFault.TheVariants.{Entry}
 use Rattle.lfg_model.specs.declared.status.Status.{Status}
 use Rattle.lfg_model.specs.declared.status.Status.TheVariants.{Done, Usage, ReadFault, FileTooLong, BadGrammar, WriteFault, Memory}
-use Rattle.lfg_model.specs.Lists.{In, here, later}
+use Rattle.lfg_model.specs.Lists.{In, later}
 use Rattle.lfg_model.specs.Output.{Command, command_of, files_of, readings, IsOutput, long_grammar, bad_grammar, long_sentences, bad_sentences}
 use Rattle.xle_run.specs.Causes.{IsRefused, IsUnwritten, IsFailure, IsRunFailure}
 use Rattle.xle_run.proofs.CauseLaws.{unwritten_sections, failed_command}

@@ -1,5 +1,5 @@
 -- What the tests of a draft say: it is consistent.
-use Rattle.std.proofs.Common.{◌≡◌, ◌≢◌, ◌==◌, ℕ, zero, suc, ◌+◌, ◌<◌, ◌&&◌, Bool, true, false, cond, not, nat_lt, IsTrue, length, get_or, drop, drop-cons, Option, Some, None, is_some, List, [], ◌∷◌, map, slice_get, refl, ap, sym, ◌∙◌, subst, arith}
+use Rattle.std.proofs.Common.{◌≡◌, ◌≢◌, ℕ, zero, suc, ◌+◌, ◌<◌, ◌&&◌, Bool, true, false, not, nat_lt, IsTrue, length, get_or, drop, drop-cons, Option, Some, None, is_some, List, [], ◌∷◌, map, slice_get, refl, ap, sym, ◌∙◌, subst, arith}
 use Rattle.std.proofs.lemmas.Bool.{false≢true}
 use Rattle.std.proofs.lemmas.Bool.Decides.{nat_tests}
 use Rattle.std.specs.List.{list_all}
@@ -16,7 +16,7 @@ use Rattle.xle_run.specs.declared.thin.draft.Entry.{Entry}
 use Rattle.xle_run.specs.declared.thin.draft.Draft.{Draft}
 use Rattle.xle_run.specs.Drafts.{daughter_view, phrase_view, entry_view, draft_view}
 use Rattle.xle_run.specs.Heads.{HaveOwnRules, place_of, is_behind, is_later, are_later}
-use Rattle.xle_run.proofs.HeadSteps.{differ, same_refl}
+use Rattle.xle_run.proofs.HeadSteps.{differ}
 use Rattle.xle_run.proofs.PlacesOf.{not_in, place_at, get_at_place, In_from_place}
 
 -- ---- lists

@@ -1,5 +1,5 @@
 -- How a thin file is refused, step by step.
-use Rattle.std.proofs.Common.{◌≡◌, ◌↔◌, ℕ, ◌≤◌, Bool, true, false, IsTrue, Option, Some, None, Result, Ok, Err, IfOk, List, length, ap, sym, ◌∙◌, subst}
+use Rattle.std.proofs.Common.{◌≡◌, ◌↔◌, ℕ, ◌≤◌, Bool, true, IsTrue, Option, Some, None, Result, Ok, Err, IfOk, List, length, ap, sym, ◌∙◌, subst}
 use Rattle.std.specs.List.{list_all}
 use Rattle.std.specs.Str.{chars}
 use Rattle.lfg_terms.specs.declared.grammar.Grammar.{Grammar}

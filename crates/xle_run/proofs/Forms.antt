@@ -1,5 +1,5 @@
 -- What stands in a section: rules, words and the root.
-use Rattle.std.proofs.Common.{◌≡◌, ◌≢◌, ℕ, Bool, true, false, Option, Some, None, List, [], ◌∷◌, ◌++◌, map, length, refl, ap, sym, ◌∙◌, subst, codes}
+use Rattle.std.proofs.Common.{◌≡◌, ◌≢◌, Option, Some, None, List, [], ap, sym, ◌∙◌, subst, codes}
 use Rattle.lfg_model.specs.declared.lexeme.Lexeme.{Lexeme}
 use Rattle.lfg_model.specs.Terms.{Name}
 use Rattle.lfg_model.specs.Thin.{Daughter, Phrase, Equation, Entry, Draft}

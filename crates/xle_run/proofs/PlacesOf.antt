@@ -1,5 +1,5 @@
 -- The first place of a name in a list.
-use Rattle.std.proofs.Common.{◌≡◌, ◌≢◌, ℕ, zero, suc, ◌+◌, ◌<◌, Bool, true, false, cond, Option, Some, None, is_some, List, [], ◌∷◌, ◌++◌, map, length, get_or, take, slice_get, refl, ap, sym, ◌∙◌, subst, arith, inl, inr}
+use Rattle.std.proofs.Common.{◌≡◌, ℕ, zero, suc, ◌+◌, ◌<◌, Bool, true, false, cond, Option, Some, None, List, [], ◌∷◌, ◌++◌, length, get_or, take, slice_get, refl, ap, sym, ◌∙◌, subst, arith}
 use Rattle.std.proofs.lemmas.Bool.{false≢true}
 use Rattle.std.proofs.lemmas.List.{take_more}
 use Rattle.std.specs.declared.cmp.Ordering.{Ordering}
@@ -9,7 +9,7 @@ use Rattle.lfg_terms.specs.Order.{name_cmp}
 use Rattle.lfg_terms.proofs.Ties.{name_cmp_same}
 use Rattle.lfg_model.specs.Lists.{In, here, later, Once, more}
 use Rattle.lfg_model.specs.Terms.{Name}
-use Rattle.lfg_model.proofs.ListLaws.{Once-push, In-push, In-push_cases}
+use Rattle.lfg_model.proofs.ListLaws.{Once-push}
 use Rattle.xle_run.specs.Heads.{place_of, next_place}
 use Rattle.xle_run.proofs.Places.{stands}
 

@@ -1,33 +1,28 @@
 -- The readings of a sentence by a thin grammar.
-use Rattle.std.proofs.Common.{◌≡◌, ℕ, ◌<◌, ◌≤◌, ◌^◌, Bool, true, false, List, [], ◌∷◌, ◌++◌, map, length, Option, Some, None, refl, sym, ap, subst, ◌∙◌, arith, lit<}
-use Rattle.std.specs.Prelude.{Result, Ok, Err, IfOk, IfSome, IfNone, ◌==◌, ◌||◌, ◌&&◌, nat_le, slice_get}
-use Rattle.std.specs.List.{flat_map, list_all}
+use Rattle.std.proofs.Common.{◌≡◌, ℕ, ◌<◌, ◌^◌, List, [], ◌∷◌, map, length, Option, Some, None, refl, sym, subst, arith, lit<}
+use Rattle.std.specs.Prelude.{Result, Ok, Err, IfOk, IfSome, IfNone}
 use Rattle.std.specs.Option.{option_to_list}
-use Rattle.std.proofs.lemmas.List.{length-map}
 use Rattle.lfg_terms.specs.declared.grammar.Grammar.{Grammar}
 use Rattle.lfg_terms.specs.declared.grammar.Item.{Item}
 use Rattle.lfg_terms.specs.declared.grammar.Rule.{Rule}
 use Rattle.lfg_terms.specs.declared.grammar.Lex.{Lex}
 use Rattle.lfg_terms.specs.declared.tree.TokenForms.{TokenForms}
 use Rattle.lfg_model.specs.declared.pair.Pair.{Pair}
-use Rattle.lfg_model.specs.Lists.{In, here, later}
+use Rattle.lfg_model.specs.Lists.{In}
 use Rattle.lfg_model.specs.Literals.{checks}
 use Rattle.lfg_model.specs.Terms.{Name, Tree, annotation_of}
 use Rattle.lfg_model.specs.Places.{form_count}
-use Rattle.lfg_model.specs.Trees.{literals, width}
+use Rattle.lfg_model.specs.Trees.{literals}
 use Rattle.lfg_model.specs.Derive.{Whole}
-use Rattle.lfg_model.specs.PairTexts.{pair_text}
 use Rattle.lfg_model.specs.Readings.{IsReadings, IsPairOf, Assigned, solution_of}
 use Rattle.lfg_model.specs.Solve.{IsWellFormed}
-use Rattle.lfg_model.specs.Thin.{Daughter, Phrase, Equation, Entry, link, item_of, rule_of_phrase, schema_of_equation, lex_of_entry, IsThinGrammar}
-use Rattle.lfg_model.specs.ThinText.{words, token_of, is_word, is_thin_line}
+use Rattle.lfg_model.specs.Thin.{Equation, link, item_of, rule_of_phrase, schema_of_equation, lex_of_entry, IsThinGrammar}
 use Rattle.lfg_model.specs.ThinTrees.{HaveOwnForms}
 use Rattle.lfg_model.proofs.AtMostOne.{no_readings, one_reading}
 use Rattle.lfg_model.proofs.DeriveLaws.{Derives-width}
-use Rattle.lfg_model.proofs.ListLaws.{In-nil, In-one, In_from_map}
+use Rattle.lfg_model.proofs.ListLaws.{In_from_map}
 use Rattle.lfg_model.proofs.ThinTreeLaws.{one_thin_derivation}
 use Rattle.lfg_solve.specs.Fits.{ItemsFit, FormsFit, Fits}
-use Rattle.xle_run.specs.Writes.{IsSentence, AppendsReadings, IsSectionOf}
 
 -- ---- a thin grammar has no form, and a sentence few words
 

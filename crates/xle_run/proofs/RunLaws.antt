@@ -1,6 +1,6 @@
 -- From what a run has put and why it ended to what is said of it.
-use Rattle.std.proofs.Common.{◌≡◌, ℕ, List, [], ◌++◌, Option, Some, None, refl, sym, subst, inl, inr}
-use Rattle.std.specs.Prelude.{◌≢◌, ◌⊎◌, Result, Ok, Err}
+use Rattle.std.proofs.Common.{◌≡◌, ℕ, List, [], ◌++◌, Option, Some, None, refl, subst, inl, inr}
+use Rattle.std.specs.Prelude.{◌≢◌, ◌⊎◌, Err}
 use Rattle.lfg_io.specs.Counts.{Rose}
 use Rattle.lfg_io.specs.Shelf.{Files, file_in}
 use Rattle.lfg_model.specs.declared.status.Status.{Status}

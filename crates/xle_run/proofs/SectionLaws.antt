@@ -1,21 +1,19 @@
 -- Sections that are put one after another.
 use Rattle.std.proofs.Common.{◌≡◌, ℕ, zero, suc, ◌+◌, ◌<◌, ◌≤◌, List, [], ◌∷◌, ◌++◌, length, take, drop, get_or, Some, Option, refl, sym, subst, ap, ◌∙◌, arith, append_assoc}
-use Rattle.std.specs.Prelude.{◌≢◌, Result, Ok, Err, Bool, map, filter, not, ◌==◌, true, false, IsTrue}
-use Rattle.std.specs.List.{flat_map, list_all}
+use Rattle.std.specs.Prelude.{◌≢◌, Ok, Err, Bool, map, not, ◌==◌, true, false}
 use Rattle.std.specs.Str.Lines.{lines}
 use Rattle.std.proofs.lemmas.List.{length-append, take_more, take-append-drop, length-take-le, get_or-map, length-map}
 use Rattle.std.proofs.lemmas.Grind.{flat_map-append}
-use Rattle.std.proofs.Math.Seq.{drop-cons, take-length}
+use Rattle.std.proofs.Math.Seq.{drop-cons}
 use Rattle.lfg_terms.specs.declared.grammar.Grammar.{Grammar}
 use Rattle.lfg_model.specs.declared.status.Status.{Status}
 use Rattle.lfg_model.specs.declared.status.Status.TheVariants.{Done, Usage, ReadFault, FileTooLong, BadGrammar, WriteFault, Memory}
-use Rattle.lfg_model.specs.Lists.{In}
 use Rattle.lfg_model.specs.ThinText.{is_thin_line, ThinSentences}
 use Rattle.lfg_model.proofs.Classing.{all_pass}
 use Rattle.lfg_model.proofs.Filters.{In_filter}
-use Rattle.lfg_model.specs.Output.{section, AreSections, none, more, AreReadings, WholeSections, CutSections, joined, sentences_of}
+use Rattle.lfg_model.specs.Output.{section, AreSections, none, more, AreReadings, joined, sentences_of}
 use Rattle.lfg_model.proofs.OutputLaws.{AreReadings-one, AreSections-one}
-use Rattle.xle_run.specs.Writes.{IsSectionOf, HasPut, LeavesRoom, PutsSection, PutsSections, PutsWithin, AreSentences, IsSentence}
+use Rattle.xle_run.specs.Writes.{IsSectionOf, HasPut, LeavesRoom, PutsSection, PutsSections, PutsWithin, AreSentences}
 
 -- one section more
 AreSections-push : (P : List ℕ → List ℕ → Type 0) (k : ℕ) (ls ss : List (List ℕ)) (line body : List ℕ) → AreSections P k ls ss → P line body

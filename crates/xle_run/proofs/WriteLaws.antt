@@ -5,11 +5,11 @@ use Rattle.lfg_io.specs.Shelf.{Files, file_in}
 use Rattle.lfg_terms.specs.declared.grammar.Grammar.{Grammar}
 use Rattle.lfg_model.specs.declared.status.Status.{Status}
 use Rattle.lfg_model.specs.declared.status.Status.TheVariants.{Done, Usage, ReadFault, FileTooLong, BadGrammar, WriteFault, Memory}
-use Rattle.lfg_model.specs.Output.{Command, readings, AreSections, AreReadings, joined, sentences_of, AreAccepted, both_thin, ComesTo, to_grammar, to_sentences, IsOutput, all_read, IsPart, nothing, whole, IsCutPart, cut, IfReadFault}
+use Rattle.lfg_model.specs.Output.{Command, readings, AreSections, AreReadings, joined, sentences_of, AreAccepted, both_thin, IsOutput, all_read, nothing, whole, cut, IfReadFault}
 use Rattle.lfg_model.proofs.OutputLaws.{sections_of_output}
 use Rattle.xle_run.specs.Causes.{IsRefused, IsUnwritten}
 use Rattle.xle_run.specs.Loads.{GivesGrammar, GivesText}
-use Rattle.xle_run.specs.Writes.{HasPut, PutsSections, Puts, IfRefused, IfTaken}
+use Rattle.xle_run.specs.Writes.{PutsSections, Puts, IfRefused, IfTaken}
 
 nil_after : (ys : List ℕ) → ys ++ [] ≡ ys
 nil_after [] = refl

@@ -1,5 +1,5 @@
 -- The categories of a draft as they come.
-use Rattle.std.specs.Prelude.{List, [], ◌∷◌, ◌++◌, map}
+use Rattle.std.specs.Prelude.{List, ◌∷◌, ◌++◌, map}
 use Rattle.std.specs.List.{flat_map}
 use Rattle.lfg_model.specs.Terms.{Name}
 use Rattle.lfg_model.specs.Thin.{Draft, Phrase}

@@ -1,5 +1,5 @@
 -- The program's drafts as those of the definitions.
-use Rattle.std.specs.Prelude.{◌≡◌, ℕ, Option, Some, None, List, map}
+use Rattle.std.specs.Prelude.{ℕ, List, map}
 use Rattle.xle_run.specs.declared.thin.draft.Daughter.{Daughter}
 use Rattle.xle_run.specs.declared.thin.draft.Phrase.{Phrase}
 use Rattle.xle_run.specs.declared.thin.draft.Equation.{Equation}

@@ -5,7 +5,7 @@ use Rattle.lfg_model.specs.declared.status.Status.{Status}
 use Rattle.lfg_model.specs.declared.status.Status.TheVariants.{Done, Usage, ReadFault, FileTooLong, BadGrammar, WriteFault, Memory}
 use Rattle.lfg_model.specs.Lists.{In}
 use Rattle.lfg_model.specs.ThinText.{is_thin_line}
-use Rattle.lfg_model.specs.Output.{section, AreSections, AreReadings, WholeSections, CutSections, joined, Command, AreAccepted, IsOutput, IsPart, IsCutPart}
+use Rattle.lfg_model.specs.Output.{section, AreSections, AreReadings, WholeSections, CutSections, joined, Command, IsOutput, IsPart, IsCutPart}
 use Rattle.lfg_io.specs.Shelf.{Files, file_in}
 
 -- the section of a sentence with its readings

@@ -1,6 +1,4 @@
-use Rattle.std.proofs.Common.{◌≡◌, ℕ, List, [], ◌++◌, Some, take, refl, sym, subst, ◌∙◌}
-use Rattle.std.specs.Prelude.{length}
-use Rattle.lfg_io.specs.Shelf.{Files, file_in, IsLoaded}
+use Rattle.std.proofs.Common.{refl}
 use Rattle.xle_run.proofs.LoadLaws.{within_file, within_long}
 use Rattle.xle_run.proofs.loads.load_file.Goals as goal
 

@@ -1,4 +1,4 @@
-use Rattle.std.proofs.Common.{◌≡◌, List, drop}
+use Rattle.std.proofs.Common.{◌≡◌, drop}
 use Rattle.std.specs.Prelude.{not, find}
 use Rattle.std.specs.List.{flat_map, list_any}
 use Rattle.lfg_model.specs.PairTexts.{branch_of, is_to, mothers, root_of}

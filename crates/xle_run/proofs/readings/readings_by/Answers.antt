@@ -1,4 +1,4 @@
-use Rattle.std.proofs.Common.{◌≡◌, ℕ, ◌<◌, ◌≤◌, List, [], ◌∷◌, Some, length, refl, ap, sym, subst, ◌∙◌}
+use Rattle.std.proofs.Common.{◌≡◌, ℕ, ◌≤◌, List, [], ◌∷◌, Some, length, refl, ap, sym, subst, ◌∙◌}
 use Rattle.std.specs.Prelude.{◌≢◌, IfErr}
 use Rattle.lfg_model.specs.Lists.{here}
 use Rattle.lfg_model.specs.Output.{readings, joined, sentences_of, AreAccepted, AreReadings, AreSections, ComesTo, to_sentences, IsOutput}

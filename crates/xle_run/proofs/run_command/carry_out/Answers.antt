@@ -1,8 +1,8 @@
-use Rattle.std.proofs.Common.{◌≡◌, Option, Some, None, [], map, sym, subst, ◌∙◌}
+use Rattle.std.proofs.Common.{◌≡◌, Option, Some, [], map, sym, subst}
 use Rattle.std.specs.Prelude.{string_bytes, IfErr}
 use Rattle.lfg_io.specs.Shelf.{file_in}
 use Rattle.lfg_model.specs.declared.status.Status.TheVariants.{Done}
-use Rattle.lfg_model.specs.Output.{Command, command_of, readings, AreAccepted, ComesTo, IfReadFault, IsOutput}
+use Rattle.lfg_model.specs.Output.{Command, command_of, AreAccepted, ComesTo, IfReadFault, IsOutput}
 use Rattle.xle_run.specs.Writes.{IfTaken, IfUnaccepted, Puts}
 use Rattle.xle_run.specs.Commands.{command_view}
 use Rattle.xle_run.proofs.CommandLaws.{failed_commands}

@@ -1,5 +1,5 @@
-use Rattle.std.proofs.Common.{◌≡◌, [], Some, None, map, refl, inl, inr}
-use Rattle.std.specs.Prelude.{string_bytes, Result}
+use Rattle.std.proofs.Common.{◌≡◌, [], map, refl, inl, inr}
+use Rattle.std.specs.Prelude.{string_bytes}
 use Rattle.std.specs.List.{Contains}
 use Rattle.lfg_io.specs.Counts.{Rose}
 use Rattle.lfg_io.specs.Sink.{Appends, AppendsPrefix}

@@ -1,11 +1,10 @@
-use Rattle.std.proofs.Common.{◌≡◌, ◌<◌, ◌∙◌, ℕ, List, [], IsTrue, is_some, map, length, get_or, take, not, ap, sym, subst, rules, true, false}
+use Rattle.std.proofs.Common.{◌≡◌, ◌<◌, ◌∙◌, ℕ, List, is_some, map, length, not, ap, sym, subst, rules, true, false}
 use Rattle.std.proofs.lemmas.Bool.{false≢true}
 use Rattle.std.specs.BTreeSet.{contains}
 use Rattle.lfg_terms.specs.Order.{name_cmp}
 use Rattle.lfg_model.specs.Lists.{Once, none}
 use Rattle.lfg_model.specs.Terms.{Name}
 use Rattle.xle_run.specs.declared.thin.draft.Entry.{Entry}
-use Rattle.xle_run.specs.Heads.{place_of}
 use Rattle.xle_run.proofs.HeadSteps.{length-map', read_map, form_once, forms_more, second_form, nothing, none_placed}
 use Rattle.xle_run.proofs.thin.consistent.have_own_forms.Goals as goal
 

@@ -1,4 +1,4 @@
-use Rattle.std.proofs.Common.{rules, ◌==◌}
+use Rattle.std.proofs.Common.{◌==◌}
 use Rattle.std.specs.Cmp.Lexicographic.{pointwise}
 use Rattle.std.proofs.lemmas.List.Filters.{dedup_is}
 use Rattle.xle_run.specs.Drafts.{draft_view}

@@ -1,5 +1,5 @@
 use Rattle.xle_run.proofs.Graphs.{last_start, last_on, last_end}
-use Rattle.std.proofs.Common.{◌≡◌, ◌∙◌, ◌++◌, ◌-◌, suc, List, Bool, ap, arith}
+use Rattle.std.proofs.Common.{◌∙◌, ◌++◌, ◌-◌, suc, List, Bool, ap, arith}
 use Rattle.lfg_model.specs.Thin.{last_of}
 use Rattle.xle_run.proofs.thin.grammar.last_flags.Goals as goal
 

@@ -1,4 +1,4 @@
-use Rattle.std.proofs.Common.{◌≡◌, ◌<◌, IsTrue, true, rules, arith, length, sym, subst, false}
+use Rattle.std.proofs.Common.{IsTrue, true, rules, subst}
 use Rattle.std.proofs.lemmas.Bool.{false≢true}
 use Rattle.lfg_model.specs.declared.lexeme.Lexeme.{Lexeme}
 use Rattle.lfg_model.specs.Lists.{In}
