@@ -14,18 +14,18 @@ is_white text = list_all is_whitespace (chars text)
 abbrev pub pieces : List ℕ → List (List ℕ)
 pieces line = filter (λ piece. not (is_white piece)) (word_bounds line)
 
--- of the characters of a text, if the first is an ASCII capital, the text with that letter in lower
--- case, and else nothing
+-- the text of these characters with the first in lower case, if that is an ASCII capital, and else
+-- nothing
 abbrev pub lowered : List ℕ → List (List ℕ)
 lowered [] = []
 lowered (c ∷ cs) = if is_ascii_uppercase c then (encode_utf8_all (to_ascii_lowercase c ∷ cs) ∷ []) else []
 
--- the first token of a line with this text: its forms are the text and, behind an ASCII capital's
--- place, the text with that letter in lower case
+-- the first token of a line, with this text: its forms are the text and, where it begins with an
+-- ASCII capital, the text with that letter in lower case
 abbrev pub first_token : List ℕ → TokenForms
 first_token text = record { text = text; forms = text ∷ lowered (chars text) }
 
--- any later token with this text: its text is its only form
+-- a later token, with this text: its text is its only form
 abbrev pub token_of : List ℕ → TokenForms
 token_of text = record { text = text; forms = text ∷ [] }
 
