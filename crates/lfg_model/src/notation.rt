@@ -1,3 +1,4 @@
+ghost use Rattle.lfg_model.specs.DraftCases.{DraftsByCases};
 ghost use Rattle.lfg_model.specs.Drafts.{NeverBoth, OneDraft, OneFault};
 ghost use Rattle.lfg_model.specs.NotationCases.{AnnotationsByCases, PathsByCases, RightSidesByCases};
 
@@ -44,9 +45,10 @@ pub fn one_draft()
 {}
 
 /// Paths, annotations and right sides are read exactly as the table of forms has them, case by
-/// case.
+/// case, and so are settings, rules, templates and words, sections and whole files.
 pub fn notation_by_cases()
     ensures paths { PathsByCases }
     ensures annotations { AnnotationsByCases }
     ensures right_sides { RightSidesByCases }
+    ensures drafts { DraftsByCases }
 {}
