@@ -1,5 +1,5 @@
 ghost use Rattle.lfg_model.specs.DraftCases.{DraftsByCases};
-ghost use Rattle.lfg_model.specs.Drafts.{NeverBoth, OneDraft, OneFault};
+ghost use Rattle.lfg_model.specs.Drafts.{NeverBoth, OneDraft, OneFault, SomeDraft};
 ghost use Rattle.lfg_model.specs.NotationCases.{AnnotationsByCases, PathsByCases, RightSidesByCases};
 
 /// How often something stands that may be repeated.
@@ -37,8 +37,9 @@ pub enum SectionKind {
     Lexicon,
 }
 
-/// A text says one draft at most, or is no grammar file for one reason at most, and never both.
+/// A text says exactly one draft, or is no grammar file for exactly one reason, and never both.
 pub fn one_draft()
+    ensures some { SomeDraft }
     ensures drafts { OneDraft }
     ensures faults { OneFault }
     ensures never_both { NeverBoth }
