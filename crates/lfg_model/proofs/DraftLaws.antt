@@ -1,11 +1,16 @@
 -- A text says one draft at most, or is none for one reason; never both, and always one of them.
-use Rattle.std.proofs.Common.{◌≡◌, ℕ, ◌≤◌, Result, Ok, Err, List, length, ap, sym, ◌∙◌, arith}
-use Rattle.std.specs.Str.{IsUtf8, chars}
-use Rattle.std.proofs.lemmas.Str.{encodes-chars}
+use Rattle.std.proofs.Common.{◌≡◌, ℕ, ◌≤◌, Bool, true, false, ◌⊎◌, inl, inr, Option, Some, None, Result, Ok, Err, List, [], ◌∷◌, length, map, refl, ap, sym, ◌∙◌, arith}
+use Rattle.std.specs.Str.{IsUtf8, is_utf8, chars}
+use Rattle.std.specs.Str.Lossy.{utf8_valid_len}
+use Rattle.std.proofs.lemmas.Bool.{false≢true}
+use Rattle.std.proofs.lemmas.Str.{encodes-chars, IsUtf8-from_is_utf8, is_utf8-from_IsUtf8}
+use Rattle.lfg_model.specs.declared.lexeme.Lexeme.{Lexeme}
 use Rattle.lfg_model.specs.declared.token.Token.{Token}
-use Rattle.lfg_model.specs.Drafts.{HasTokens, not_utf8, no_token, no_lexemes, said, lexemes_of, OneDraft, OneFault, NeverBoth}
-use Rattle.lfg_model.specs.Tokens.{Tokens, done, past_gap, past_token, width}
+use Rattle.lfg_model.specs.DraftForms.{DraftForm}
+use Rattle.lfg_model.specs.Drafts.{HasTokens, LexemesFault, Drafts, FileFault, not_utf8, no_token, no_lexemes, HasFault, said, lexemes_of, SomeDraft, OneDraft, OneFault, NeverBoth}
+use Rattle.lfg_model.specs.Tokens.{Tokens, done, past_gap, past_token, Stuck, width}
 use Rattle.lfg_model.proofs.OneReading.{one_row, one_place, not_both}
+use Rattle.lfg_model.proofs.SomeReading.{some_reading}
 use Rattle.lfg_model.proofs.PieceEnds.{piece_shorter, width_len}
 
 says_both : {X Y : Type 0} (r : Result X Y) (x y : X) → r ≡ Ok x → r ≡ Ok y → x ≡ y
@@ -47,3 +52,18 @@ tokens_few (past_token {cs = cs} {ds = ds} e w t) = let h = piece_shorter cs ds 
 
 pub chars_few : (bytes : List ℕ) → IsUtf8 bytes → length (chars bytes) ≤ length bytes
 chars_few bytes u = let h = width_len (chars bytes) in let k : width (chars bytes) ≡ length bytes = ap length (encodes-chars bytes u) in omega arith
+
+said_or_fault : (bytes : List ℕ) (ts : List Token) → HasTokens bytes ts → (r : Result DraftForm LexemesFault) → said (lexemes_of ts) ≡ r → ((d : DraftForm) × Drafts bytes d) ⊎ ((f : FileFault) × HasFault bytes f)
+said_or_fault bytes ts h (Ok d) e = inl (d, record { tokens = ts; has = h; says = e })
+said_or_fault bytes ts h (Err f) e = inr (no_lexemes f, record { tokens = ts; has = h; says = e })
+
+read_or_stuck : (bytes : List ℕ) → IsUtf8 bytes → ((ts : List Token) × Tokens 0 (chars bytes) ts) ⊎ ((stop : ℕ) × Stuck 0 (chars bytes) stop) → ((d : DraftForm) × Drafts bytes d) ⊎ ((f : FileFault) × HasFault bytes f)
+read_or_stuck bytes u (inl t) = said_or_fault bytes t.0 (record { utf8 = u; read = t.1 }) (said (lexemes_of t.0)) refl
+read_or_stuck bytes u (inr s) = inr (no_token s.0, (u, s.1))
+
+utf8_or_not : (bytes : List ℕ) (b : Bool) → is_utf8 bytes ≡ b → ((d : DraftForm) × Drafts bytes d) ⊎ ((f : FileFault) × HasFault bytes f)
+utf8_or_not bytes true e = read_or_stuck bytes (IsUtf8-from_is_utf8 bytes e) (some_reading (chars bytes))
+utf8_or_not bytes false e = inr (not_utf8 (utf8_valid_len bytes), (λ u. false≢true (sym e ∙ is_utf8-from_IsUtf8 bytes u), refl))
+
+pub some_draft : SomeDraft
+some_draft bytes = utf8_or_not bytes (is_utf8 bytes) refl

@@ -11,6 +11,7 @@ pub mod Classing
 pub mod DeriveLaws
 pub mod Descent
 pub mod DraftLaws
+pub mod DraftsByCases
 pub mod ExampleLaws
 pub mod Filters
 pub mod ListLaws

@@ -1,5 +1,5 @@
 -- Which texts are grammar files and what each of them says; and of any other text, why it is none.
-use Rattle.std.specs.Prelude.{◌≡◌, ℕ, ◌+◌, Bool, true, false, cond, Option, Some, None, Result, Ok, Err, List, [], ◌∷◌, ◌++◌, map, codes}
+use Rattle.std.specs.Prelude.{◌≡◌, ℕ, ◌+◌, Bool, true, false, cond, ◌||◌, ◌⊎◌, Option, Some, None, Result, Ok, Err, List, [], ◌∷◌, ◌++◌, map, codes}
 use Rattle.std.specs.List.{list_any}
 use Rattle.std.specs.Str.{IsUtf8, chars}
 use Rattle.std.specs.Str.Lossy.{utf8_valid_len}
@@ -191,6 +191,10 @@ HasFault bytes (no_token at) = IsUtf8 bytes × Stuck 0 (chars bytes) at
 HasFault bytes (no_lexemes fault) = HasLexemesFault bytes fault
 
 -- ---- laws
+
+-- Law: a text says a draft, or there is a reason why it says none.
+abbrev pub SomeDraft : Type 0
+SomeDraft = (bytes : List ℕ) → ((d : DraftForm) × Drafts bytes d) ⊎ ((f : FileFault) × HasFault bytes f)
 
 -- Law: a text says one draft at most.
 abbrev pub OneDraft : Type 0

@@ -1,5 +1,6 @@
 pub mod Brackets
 pub mod Derive
+pub mod DraftCases
 pub mod DraftForms
 pub mod Drafts
 pub mod EntryNotation

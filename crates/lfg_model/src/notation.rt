@@ -1,4 +1,5 @@
-ghost use Rattle.lfg_model.specs.Drafts.{NeverBoth, OneDraft, OneFault};
+ghost use Rattle.lfg_model.specs.DraftCases.{DraftsByCases};
+ghost use Rattle.lfg_model.specs.Drafts.{NeverBoth, OneDraft, OneFault, SomeDraft};
 ghost use Rattle.lfg_model.specs.NotationCases.{AnnotationsByCases, PathsByCases, RightSidesByCases};
 
 /// How often something stands that may be repeated.
@@ -36,17 +37,19 @@ pub enum SectionKind {
     Lexicon,
 }
 
-/// A text says one draft at most, or is no grammar file for one reason at most, and never both.
+/// A text says exactly one draft, or is no grammar file for exactly one reason, and never both.
 pub fn one_draft()
+    ensures some { SomeDraft }
     ensures drafts { OneDraft }
     ensures faults { OneFault }
     ensures never_both { NeverBoth }
 {}
 
 /// Paths, annotations and right sides are read exactly as the table of forms has them, case by
-/// case.
+/// case, and so are settings, rules, templates and words, sections and whole files.
 pub fn notation_by_cases()
     ensures paths { PathsByCases }
     ensures annotations { AnnotationsByCases }
     ensures right_sides { RightSidesByCases }
+    ensures drafts { DraftsByCases }
 {}
