@@ -134,4 +134,4 @@ pub record ReadingBecomes (ts : List TemplateForm) (r q : WordForm) : Type 0 whe
 pub record Expands (d : DraftForm) (p : PlainForm) : Type 0 where
   pub settings : p.settings ≡ d.settings
   pub rules : Each (RuleBecomes d.templates) d.rules p.rules
-  pub readings : Each (ReadingBecomes d.templates) d.words p.words
+  pub words : Each (ReadingBecomes d.templates) d.words p.words
