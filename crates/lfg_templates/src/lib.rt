@@ -15,6 +15,8 @@ mod plain;
 mod sides;
 mod spots;
 mod templates;
+#[cfg(test)]
+mod tests;
 mod totals;
 
 pub use drafts::expand;
