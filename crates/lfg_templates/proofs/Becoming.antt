@@ -11,7 +11,7 @@ use Rattle.lfg_terms.specs.declared.grammar.Schema.TheVariants as written
 use Rattle.lfg_terms.specs.declared.path_expr.PathExpr.{PathExpr}
 use Rattle.lfg_model.specs.Terms.{Name}
 use Rattle.lfg_model.specs.PathExpressions.{PathExpression}
-use Rattle.lfg_model.specs.RightSides.{DraftSchema, define, constrain, exists, member, mark, either, maybe, call, DraftAnnotation, and_schema, DraftBranches, or_branch, draft_annotation_from, draft_branches_from, draft_des_of, draft_val_of, draft_schema_of, draft_annotation_of}
+use Rattle.lfg_model.specs.RightSides.{DraftSchema, define, constrain, exists, member, mark, either, maybe, DraftAnnotation, and_schema, draft_annotation_from, draft_branches_from, draft_des_of, draft_val_of, draft_schema_of, draft_annotation_of}
 use Rattle.lfg_model.specs.DraftForms.{TemplateForm}
 use Rattle.lfg_model.specs.Templates.{Binding, name_with, des_with, val_with, template_named, Becomes, defining, constraining, existential, membership, marked, disjunction, option, called, AllBecome, nothing, one_more, BranchesBecome, no_more, branch_more}
 use Rattle.lfg_model.proofs.RightSideViews.{view_define, view_constrain, view_exists, view_member, view_mark, view_either, view_option, view_call}

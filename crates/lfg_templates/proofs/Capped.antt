@@ -1,6 +1,5 @@
 -- Sums that stop one past the greatest number of schemata.
 use Rattle.std.proofs.Common.{◌≡◌, ℕ, suc, ◌<◌, ◌≤◌, ◌+◌, min, arith}
-use Rattle.std.proofs.Math.Nat.{min-eq_left, min-eq_right}
 use Rattle.lfg_model.specs.TemplateRules.{schema_limit}
 use Rattle.lfg_templates.specs.Counts.{capped}
 

@@ -1,5 +1,5 @@
 -- The counts as sums.
-use Rattle.std.proofs.Common.{◌≡◌, ℕ, zero, suc, ◌<◌, ◌≤◌, ◌+◌, ◌-◌, min, Option, Some, None, List, [], ◌∷◌, ◌++◌, length, map, take, drop, get_or, Vec, Global, refl, sym, ap, ◌∙◌, arith}
+use Rattle.std.proofs.Common.{◌≡◌, ℕ, zero, suc, ◌<◌, ◌+◌, ◌-◌, Some, None, List, [], ◌∷◌, ◌++◌, length, map, take, drop, get_or, Vec, Global, refl, sym, ap, ◌∙◌, arith}
 use Rattle.std.proofs.lemmas.List.{take_more}
 use Rattle.lfg_terms.specs.declared.draft.Rhs.{Rhs}
 use Rattle.lfg_terms.specs.declared.grammar.Schema.{Schema}
@@ -10,7 +10,7 @@ use Rattle.lfg_model.specs.RightSides.{draft_branches_from, draft_schema_of, dra
 use Rattle.lfg_model.specs.DraftForms.{TemplateForm}
 use Rattle.lfg_model.specs.Templates.{template_named}
 use Rattle.lfg_model.proofs.RightSideViews.{view_either, view_call}
-use Rattle.lfg_templates.specs.Counts.{Counter, one_count, all_count, branches_count, body_count, call_count, side_count, sides_count, capped, summed}
+use Rattle.lfg_templates.specs.Counts.{Counter, one_count, all_count, branches_count, body_count, call_count, side_count, sides_count, summed}
 
 pub summed_append : {X : Type 0} (f : X → ℕ) (xs ys : List X) → summed f (xs ++ ys) ≡ summed f xs + summed f ys
 summed_append f [] ys = omega arith

@@ -1,6 +1,6 @@
 -- Where no template calls itself, and each call names a template, calls go no deeper than there are
 -- templates.
-use Rattle.std.proofs.Common.{◌≡◌, ℕ, zero, suc, ◌+◌, ◌<◌, ◌≤◌, Bool, true, false, cond, Option, Some, None, List, [], ◌∷◌, length, map, refl, sym, ap, ◌∙◌, subst, arith, inl, inr}
+use Rattle.std.proofs.Common.{◌≡◌, ℕ, zero, suc, ◌+◌, ◌≤◌, Bool, true, false, cond, Option, Some, None, List, [], ◌∷◌, length, map, refl, sym, ap, ◌∙◌, subst, arith, inl, inr}
 use Rattle.std.proofs.lemmas.List.{length-map}
 use Rattle.lfg_model.specs.Lists.{In, here, later, Once, none, more}
 use Rattle.lfg_model.specs.Terms.{Name, same_name}
@@ -9,7 +9,7 @@ use Rattle.lfg_model.specs.Templates.{template_named}
 use Rattle.lfg_model.specs.TemplateRules.{Call, calls, NoneHas, IsCyclic, Reaches, at_once, through, template_name}
 use Rattle.lfg_model.proofs.ListLaws.{In-cons_cases, In-nil, In-map, length-le_from_Once}
 use Rattle.lfg_templates.proofs.SameNames.{equal_from_same}
-use Rattle.lfg_templates.specs.Depth.{Leads, into, AllLead}
+use Rattle.lfg_templates.specs.Depth.{Leads, into}
 
 found_at : (u : TemplateForm) (ts : List TemplateForm) (name : Name) (t : TemplateForm) (b : Bool) → same_name u.name name ≡ b → cond b (Some u) (template_named ts name) ≡ Some t
     → (template_named ts name ≡ Some t → In t ts × (t.name ≡ name)) → In t (u ∷ ts) × (t.name ≡ name)

@@ -1,5 +1,5 @@
 -- At most one rule is the first that is broken, and none of a draft that is expanded.
-use Rattle.std.proofs.Common.{◌≡◌, ℕ, zero, suc, ◌+◌, ◌<◌, ◌≤◌, ◌⊎◌, inl, inr, Bool, true, false, cond, nat_lt, Result, Ok, Err, List, [], ◌∷◌, ◌++◌, length, refl, sym, ap, ◌∙◌, subst, arith}
+use Rattle.std.proofs.Common.{◌≡◌, ℕ, suc, ◌<◌, ◌≤◌, ◌⊎◌, inl, inr, Bool, true, false, cond, nat_lt, Result, Ok, Err, List, [], ◌∷◌, ◌++◌, length, refl, sym, ap, ◌∙◌, subst, arith}
 use Rattle.std.proofs.lemmas.Bool.{ltb-true, ltb-false}
 use Rattle.std.specs.Prelude.{IfOk, IfErr, IsOkUnless}
 use Rattle.lfg_terms.specs.declared.draft.Plain.{Plain}
@@ -8,7 +8,7 @@ use Rattle.lfg_model.specs.Terms.{Name}
 use Rattle.lfg_model.specs.DraftForms.{DraftForm, PlainForm, plain_form}
 use Rattle.lfg_model.specs.Templates.{Expands}
 use Rattle.lfg_model.specs.TemplateRules.{FirstWritten, FirstNamed, NoneHas, Weight, weights, size_before, whole_size, Passes, schema_limit, IsExpanded, FirstTooMuch}
-use Rattle.lfg_model.proofs.ListLaws.{In-append_left, In-append_right, In-cons_cases}
+use Rattle.lfg_model.proofs.ListLaws.{In-append_right, In-cons_cases}
 use Rattle.lfg_templates.specs.declared.fault.TemplateFault.{TemplateFault}
 use Rattle.lfg_templates.specs.declared.fault.TemplateFault.TheVariants.{Repeated, Undefined, Arity, TemplateCycle, TooMuch, Memory}
 use Rattle.lfg_templates.specs.Counts.{summed}

@@ -1,14 +1,14 @@
 -- What a draft becomes: there is such a thing, and its number of schemata is what was counted.
-use Rattle.std.proofs.Common.{◌≡◌, ℕ, zero, suc, ◌+◌, ◌<◌, ◌≤◌, ◌-◌, Option, Some, None, List, [], ◌∷◌, ◌++◌, length, map, refl, sym, ap, ◌∙◌, subst, arith}
+use Rattle.std.proofs.Common.{◌≡◌, ℕ, zero, suc, ◌+◌, Some, None, List, [], ◌∷◌, ◌++◌, map, refl, sym, ap, ◌∙◌, subst, arith}
 use Rattle.lfg_model.specs.Lists.{In, here, later}
 use Rattle.lfg_model.specs.Terms.{Name}
 use Rattle.lfg_model.specs.RightSides.{DraftSchema, define, constrain, exists, member, mark, either, maybe, call, DraftAnnotation, no_schema, and_schema, DraftBranches, no_branch, or_branch, draft_annotation_from, draft_branches_from, RightSide, RightSides, item, optional, no_side, and_side}
 use Rattle.lfg_model.specs.RightSides as side
 use Rattle.lfg_model.specs.DraftForms.{TemplateForm, RuleForm, WordForm, DraftForm, PlainForm}
-use Rattle.lfg_model.specs.Templates.{Binding, unbound, name_with, des_with, val_with, template_named, Becomes, defining, constraining, existential, membership, marked, disjunction, option, called, AllBecome, nothing, one_more, BranchesBecome, no_more, branch_more, SideBecomes, bare, annotated, in_row, in_branches, in_option, in_star, in_plus, SidesBecome, no_part, part_more, Each, end, and, RuleBecomes, ReadingBecomes, Expands}
-use Rattle.lfg_model.specs.TemplateRules.{Call, schema_calls, calls, branches_calls, option_calls, side_calls, sides_calls, Weight, schema_size, annotation_size, branches_size, option_size, side_size, sides_size, rule_weight, reading_weight, weights}
+use Rattle.lfg_model.specs.Templates.{Binding, unbound, name_with, template_named, Becomes, defining, constraining, existential, membership, marked, disjunction, option, called, AllBecome, nothing, one_more, BranchesBecome, no_more, branch_more, SideBecomes, bare, annotated, in_row, in_branches, in_option, in_star, in_plus, SidesBecome, no_part, part_more, Each, end, and, RuleBecomes, ReadingBecomes, Expands}
+use Rattle.lfg_model.specs.TemplateRules.{schema_calls, calls, branches_calls, side_calls, sides_calls, Weight, annotation_size, branches_size, side_size, sides_size, rule_weight, reading_weight, weights}
 use Rattle.lfg_model.proofs.ListLaws.{In-append_left, In-append_right}
-use Rattle.lfg_templates.specs.Counts.{Counter, one_count, all_count, branches_count, body_count, call_count, option_count, side_count, sides_count, rule_count, reading_count, draft_counts}
+use Rattle.lfg_templates.specs.Counts.{one_count, all_count, branches_count, body_count, call_count, side_count, sides_count, rule_count, reading_count, draft_counts}
 use Rattle.lfg_templates.specs.Depth.{Leads, into, AllLead, DraftLeads}
 
 -- ---- sizes of lists

@@ -1,12 +1,12 @@
 -- A draft that keeps the rules on its calls: how deep they go, and what follows from the count.
-use Rattle.std.proofs.Common.{◌≡◌, ℕ, ◌<◌, ◌≤◌, Option, Some, None, List, ◌++◌, length, map, refl, sym, ap, ◌∙◌, subst}
+use Rattle.std.proofs.Common.{◌≡◌, ℕ, ◌≤◌, Option, Some, None, List, ◌++◌, length, sym, subst}
 use Rattle.std.proofs.lemmas.Option.{MatchOption-at_none, MatchOption-at_some}
 use Rattle.std.specs.List.{flat_map}
 use Rattle.std.specs.Option.{MatchOption}
 use Rattle.lfg_model.specs.Lists.{In}
-use Rattle.lfg_model.specs.DraftForms.{TemplateForm, RuleForm, WordForm, DraftForm, PlainForm}
+use Rattle.lfg_model.specs.DraftForms.{TemplateForm, DraftForm, PlainForm}
 use Rattle.lfg_model.specs.Templates.{Expands, template_named}
-use Rattle.lfg_model.specs.TemplateRules.{Call, CallAt, call_at, calls, rule_calls, template_calls, reading_calls, draft_calls, Weight, weights, whole_size, Passes, schema_limit, IsExpanded, FirstTooMuch}
+use Rattle.lfg_model.specs.TemplateRules.{Call, call_at, calls, rule_calls, template_calls, reading_calls, Weight, whole_size, Passes, schema_limit, IsExpanded, FirstTooMuch}
 use Rattle.lfg_model.proofs.ListLaws.{In-map, In-flat_map, In-append_left, In-append_right}
 use Rattle.lfg_templates.specs.Counts.{call_count, draft_counts}
 use Rattle.lfg_templates.specs.Depth.{DraftLeads}

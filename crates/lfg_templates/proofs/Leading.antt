@@ -1,12 +1,12 @@
 -- How deep the calls go that stand in parts of an annotation.
-use Rattle.std.proofs.Common.{◌≡◌, ℕ, zero, suc, ◌<◌, ◌≤◌, ◌-◌, Some, None, List, [], ◌∷◌, ◌++◌, length, map, get_or, Vec, Global, refl, sym, ap, ◌∙◌, subst, arith}
+use Rattle.std.proofs.Common.{◌≡◌, ℕ, suc, ◌<◌, ◌≤◌, ◌-◌, Some, None, List, length, map, get_or, Vec, Global, sym, ap, ◌∙◌, subst, arith}
 use Rattle.std.proofs.lemmas.Option.{same_Some}
 use Rattle.lfg_terms.specs.declared.grammar.Schema.{Schema}
 use Rattle.lfg_terms.specs.declared.grammar.Schema.TheVariants as written
 use Rattle.lfg_terms.specs.declared.path_expr.PathExpr.{PathExpr}
 use Rattle.lfg_model.specs.Lists.{In, here, later}
 use Rattle.lfg_model.specs.Terms.{Name}
-use Rattle.lfg_model.specs.RightSides.{DraftSchema, DraftAnnotation, draft_branches_from, draft_schema_of, draft_annotation_of}
+use Rattle.lfg_model.specs.RightSides.{DraftSchema, draft_branches_from, draft_schema_of, draft_annotation_of}
 use Rattle.lfg_model.specs.DraftForms.{TemplateForm}
 use Rattle.lfg_model.specs.Templates.{template_named}
 use Rattle.lfg_model.specs.TemplateRules.{Call, calls, schema_calls, branches_calls}

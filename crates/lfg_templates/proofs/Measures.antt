@@ -1,5 +1,5 @@
 -- The measure of what follows calls into the bodies of templates.
-use Rattle.std.proofs.Common.{◌≡◌, ℕ, zero, suc, ◌<◌, ◌≤◌, ◌+◌, ◌*◌, ◌-◌, List, [], ◌∷◌, length, get_or, sym, subst, arith}
+use Rattle.std.proofs.Common.{◌≡◌, ℕ, zero, suc, ◌<◌, ◌≤◌, ◌+◌, ◌*◌, ◌-◌, List, length, get_or, sym, subst, arith}
 use Rattle.lfg_terms.specs.declared.draft.Template.{Template}
 use Rattle.lfg_model.specs.Lists.{In, here, later}
 use Rattle.lfg_model.proofs.ListLaws.{In-at}

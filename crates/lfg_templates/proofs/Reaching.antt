@@ -1,8 +1,8 @@
 -- What a search over the graph reaches.
-use Rattle.std.proofs.Common.{◌≡◌, ◌≢◌, ℕ, zero, suc, ◌+◌, ◌<◌, ◌≤◌, ◌⊎◌, inl, inr, Bool, true, false, cond, List, [], ◌∷◌, ◌++◌, length, map, take, get_or, set, replicate, Vec, Global, refl, sym, ap, ◌∙◌, subst, arith}
+use Rattle.std.proofs.Common.{◌≡◌, ◌≢◌, ℕ, zero, suc, ◌+◌, ◌<◌, ◌≤◌, ◌⊎◌, inl, inr, Bool, true, false, List, [], ◌∷◌, ◌++◌, length, map, take, get_or, set, replicate, Vec, Global, refl, sym, ap, ◌∙◌, subst, arith}
 use Rattle.std.proofs.lemmas.List.{take_more, take_all, get_or-set_same, get_or-set_other, length-append, length-set, length-map}
-use Rattle.lfg_model.specs.Lists.{In, here, later, Extends}
-use Rattle.lfg_model.proofs.ListLaws.{In-take_more, In-append_cases, In-extended, In-push, In-push_cases, In-cons_cases, In-nil, In-at, Extends-refl, Extends-push, Extends-trans}
+use Rattle.lfg_model.specs.Lists.{In, here, Extends}
+use Rattle.lfg_model.proofs.ListLaws.{In-take_more, In-extended, In-push, In-push_cases, In-cons_cases, In-nil, In-at, Extends-refl, Extends-push, Extends-trans}
 use Rattle.lfg_templates.specs.Graphs.{row_at, Walks, step, further, unmarked, Tied, Reached, Search}
 
 -- ---- marks

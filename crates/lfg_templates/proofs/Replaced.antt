@@ -1,7 +1,7 @@
 -- Lists of path expressions, each replaced.
-use Rattle.std.proofs.Common.{◌≡◌, ℕ, ◌≤◌, List, [], ◌∷◌, length, map, take, refl, sym, ap, ◌∙◌}
+use Rattle.std.proofs.Common.{◌≡◌, List, [], ◌∷◌, map, refl, ap, ◌∙◌}
 use Rattle.lfg_terms.specs.declared.path_expr.PathExpr.{PathExpr}
-use Rattle.lfg_model.specs.PathExpressions.{PathExpression, PathExpressions, and_path, expressions_from, expression_of, expressions_of}
+use Rattle.lfg_model.specs.PathExpressions.{PathExpressions, and_path, expressions_from, expression_of, expressions_of}
 use Rattle.lfg_model.specs.Templates.{Binding, path_with, paths_with}
 
 paths_from : (b : Binding) (ps : List PathExpr) → expressions_from (map (λ p. path_with b (expression_of p)) ps) ≡ paths_with b (expressions_of ps)

@@ -1,5 +1,5 @@
 -- What right sides become, as the loops make it, and how deep the calls in their parts go.
-use Rattle.std.proofs.Common.{◌≡◌, ℕ, ◌+◌, ◌<◌, Option, Some, None, List, [], ◌∷◌, ◌++◌, length, map, take, get_or, Result, Vec, Global, refl, sym, ap, ◌∙◌, subst}
+use Rattle.std.proofs.Common.{◌≡◌, ℕ, ◌+◌, ◌<◌, Option, Some, None, List, [], ◌∷◌, ◌++◌, length, map, take, get_or, Result, Vec, Global, sym, ap, ◌∙◌, subst}
 use Rattle.std.proofs.lemmas.List.{take_more, map-append}
 use Rattle.std.proofs.lemmas.Result.{IfOk-weaker}
 use Rattle.std.specs.Option.{option_map}
@@ -11,12 +11,12 @@ use Rattle.lfg_terms.specs.declared.grammar.Schema.{Schema}
 use Rattle.lfg_terms.specs.declared.path_expr.PathExpr.{PathExpr}
 use Rattle.lfg_model.specs.Lists.{In, here, later}
 use Rattle.lfg_model.specs.Terms.{Name}
-use Rattle.lfg_model.specs.RightSides.{DraftSchema, DraftAnnotation, draft_schema_of, draft_annotation_from, draft_annotation_of, RightSide, item, row, one_of, optional, star, plus, RightSides, right_sides_from, right_side_of, right_sides_of}
+use Rattle.lfg_model.specs.RightSides.{draft_schema_of, draft_annotation_of, RightSide, item, row, one_of, optional, star, plus, right_sides_from, right_side_of, right_sides_of}
 use Rattle.lfg_model.specs.DraftForms.{TemplateForm}
 use Rattle.lfg_model.specs.Templates.{unbound, AllBecome, SideBecomes, bare, annotated, in_row, in_branches, in_option, in_star, in_plus, SidesBecome, no_part, part_more}
 use Rattle.lfg_model.specs.TemplateRules.{Call, calls, option_calls, side_calls, sides_calls}
 use Rattle.lfg_model.proofs.ListLaws.{In-append_left, In-append_right}
-use Rattle.lfg_model.proofs.RightSideViews.{view_item, view_row, view_one_of, view_maybe, view_star, view_plus}
+use Rattle.lfg_model.proofs.RightSideViews.{view_row, view_one_of, view_maybe, view_star, view_plus}
 use Rattle.lfg_templates.specs.Depth.{AllLead}
 use Rattle.lfg_templates.proofs.Measures.{In_item}
 

@@ -1,7 +1,7 @@
 -- Sums over entries: those before an entry, and those up to it.
-use Rattle.std.proofs.Common.{◌≡◌, ℕ, zero, suc, ◌+◌, ◌<◌, ◌≤◌, Bool, true, false, cond, nat_lt, min, Option, Some, None, List, [], ◌∷◌, ◌++◌, length, map, take, drop, get_or, fold, refl, sym, ap, ◌∙◌, subst, arith}
+use Rattle.std.proofs.Common.{◌≡◌, ℕ, zero, suc, ◌+◌, ◌<◌, ◌≤◌, Bool, true, false, cond, nat_lt, Option, Some, None, List, [], ◌∷◌, ◌++◌, length, map, take, drop, get_or, fold, refl, sym, ap, ◌∙◌, arith}
 use Rattle.std.proofs.lemmas.Bool.{ltb-true, ltb-false}
-use Rattle.std.proofs.lemmas.List.{map-append, take_more}
+use Rattle.std.proofs.lemmas.List.{map-append}
 use Rattle.std.proofs.lemmas.List.Sorted.{sum_by-IsPermutation}
 use Rattle.std.specs.List.{sum_by}
 use Rattle.std.specs.List.Sorted.{IsPermutation, IsNonDecreasingBy}
@@ -13,7 +13,7 @@ use Rattle.lfg_terms.specs.declared.draft.Template.{Template}
 use Rattle.lfg_model.specs.DraftForms.{draft_form, rule_form, template_form, word_form}
 use Rattle.lfg_model.specs.Lists.{In, here, later}
 use Rattle.lfg_model.specs.TemplateRules.{Weight, size_before, Passes, whole_size, schema_limit}
-use Rattle.lfg_model.proofs.ListLaws.{In-place, In-take, In-nil, In-push_cases, In-take_more}
+use Rattle.lfg_model.proofs.ListLaws.{In-place, In-nil}
 use Rattle.lfg_templates.specs.declared.totals.Weight as held
 use Rattle.lfg_templates.specs.Counts.{call_count, rule_count, reading_count, draft_counts, capped, capped_weight, summed}
 use Rattle.lfg_templates.specs.Views.{weight_of}

@@ -5,7 +5,6 @@ use Rattle.lfg_terms.specs.declared.grammar.Schema.{Schema, size-Schema}
 use Rattle.lfg_terms.specs.declared.path_expr.PathExpr.{PathExpr}
 use Rattle.lfg_terms.specs.declared.draft.Template.{Template}
 use Rattle.lfg_model.specs.Lists.{In}
-use Rattle.lfg_model.specs.RightSides.{DraftAnnotation}
 use Rattle.lfg_model.specs.DraftForms.{TemplateForm, RuleForm, WordForm, DraftForm}
 use Rattle.lfg_model.specs.Templates.{template_named}
 use Rattle.lfg_model.specs.TemplateRules.{Call, calls, side_calls}

@@ -1,6 +1,6 @@
 -- Spots of a draft: the entry and the name that a fault tells, and the first of them in written
 -- order.
-use Rattle.std.specs.Prelude.{◌≡◌, ℕ, ◌≤◌, nat_lt, cond, Option, Some, None, List}
+use Rattle.std.specs.Prelude.{◌≡◌, ℕ, nat_lt, cond, Option, Some, None, List}
 use Rattle.std.specs.Option.{option_map}
 use Rattle.lfg_model.specs.Terms.{Name}
 use Rattle.lfg_model.specs.TemplateRules.{FirstWritten, NoneHas}

@@ -1,4 +1,4 @@
-use Rattle.std.proofs.Common.{rules, ◌≡◌, ◌≤◌, length, arith, map, subst, List}
+use Rattle.std.proofs.Common.{◌≡◌, arith, map, subst, List}
 use Rattle.std.proofs.lemmas.List.{take_all}
 use Rattle.lfg_terms.specs.declared.path_expr.PathExpr.{PathExpr}
 use Rattle.lfg_model.specs.PathExpressions.{expression_of}

@@ -1,4 +1,4 @@
-use Rattle.std.proofs.Common.{rules, arith, ◌≡◌, ◌++◌, ◌∷◌, [], map, ap, sym, ◌∙◌, List}
+use Rattle.std.proofs.Common.{arith, ◌++◌, map, ap, sym, ◌∙◌, List}
 use Rattle.std.proofs.lemmas.List.{map-append}
 use Rattle.lfg_terms.specs.declared.grammar.Schema.TheVariants as written
 use Rattle.lfg_model.specs.Terms.{Name}

@@ -1,4 +1,4 @@
-use Rattle.std.proofs.Common.{rules, sym, ◌≡◌, ◌∙◌, ap, length, subst, map, Option, ◌++◌, [], ◌∷◌}
+use Rattle.std.proofs.Common.{sym, ◌∙◌, ap, length, subst, map, Option, ◌++◌, [], ◌∷◌}
 use Rattle.std.specs.Option.{option_map}
 use Rattle.lfg_model.specs.DraftForms.{template_form}
 use Rattle.lfg_model.specs.TemplateRules.{call_entry, HasOtherArity, call_name}

@@ -1,8 +1,5 @@
-use Rattle.std.proofs.Common.{rules, arith, ◌≡◌, ◌<◌, ◌≤◌, ◌∙◌, ◌-◌, ℕ, suc, List, Vec, Global, map, take, drop, ap, sym, length}
+use Rattle.std.proofs.Common.{rules, arith, ◌≡◌, ◌<◌, ◌-◌, map, ap}
 use Rattle.std.proofs.lemmas.List.{take_all}
-use Rattle.lfg_terms.specs.declared.grammar.Schema.{Schema, size-Schema}
-use Rattle.lfg_terms.specs.declared.grammar.Schema.TheViews.{the_lemmas}
-use Rattle.lfg_terms.specs.declared.path_expr.PathExpr.{PathExpr}
 use Rattle.lfg_model.specs.RightSides.{draft_schema_of, draft_annotation_of}
 use Rattle.lfg_model.specs.DraftForms.{template_form}
 use Rattle.lfg_templates.specs.Counts.{one_count, all_count, call_count, capped, summed}

@@ -1,4 +1,4 @@
-use Rattle.std.proofs.Common.{arith, map, take, ap, length}
+use Rattle.std.proofs.Common.{arith, map, ap}
 use Rattle.std.proofs.lemmas.List.{take_all}
 use Rattle.lfg_model.specs.RightSides.{right_side_of}
 use Rattle.lfg_model.specs.DraftForms.{template_form}

@@ -1,8 +1,7 @@
-use Rattle.std.proofs.Common.{rules, arith, length, map, replicate, false, true, ◌≡◌, ◌<◌, ◌≤◌, ◌∙◌, ap, sym, subst, get_or, refl}
+use Rattle.std.proofs.Common.{rules, arith, length, map, replicate, false, ◌≡◌, ◌<◌, ◌≤◌, ◌∙◌, ap, sym, refl}
 use Rattle.std.proofs.lemmas.List.{length-replicate}
-use Rattle.lfg_model.specs.Lists.{In}
 use Rattle.lfg_templates.proofs.Measures.{In_item}
-use Rattle.lfg_templates.proofs.Reaching.{tied_own, tied_fresh, tied_at, tied_within, reached_at, search_begun, search_more, search_done, rows_length, row_items}
+use Rattle.lfg_templates.proofs.Reaching.{tied_fresh, tied_at, tied_within, reached_at, search_begun, search_more, search_done, rows_length, row_items}
 use Rattle.lfg_templates.proofs.cycles.leads_back.Goals as goal
 
 pub mark_row-requires : goal.mark_row-requires

@@ -1,5 +1,4 @@
-use Rattle.std.proofs.Common.{rules, arith, ◌≡◌, ◌<◌, ◌++◌, ◌∷◌, [], ℕ, List, length, get_or, false, subst, sym}
-use Rattle.lfg_templates.specs.Graphs.{Tied, Reached}
+use Rattle.std.proofs.Common.{rules, ◌≡◌, ◌<◌, length, get_or, false}
 use Rattle.lfg_templates.proofs.Reaching.{tied_more, reached_push}
 use Rattle.lfg_templates.proofs.cycles.mark.Goals as goal
 

@@ -1,4 +1,4 @@
-use Rattle.std.proofs.Common.{rules, arith, length, ◌≡◌, get_or, ap, sym, subst, ℕ, refl, ◌∷◌, []}
+use Rattle.std.proofs.Common.{length, get_or, subst, ℕ, refl, ◌∷◌, []}
 use Rattle.lfg_templates.specs.Graphs.{Tied, Reached}
 use Rattle.lfg_templates.proofs.Reaching.{tied_own, reached_more}
 use Rattle.lfg_templates.proofs.cycles.mark_row.Goals as goal

@@ -1,4 +1,4 @@
-use Rattle.std.proofs.Common.{rules, map, ap, sym, ◌∙◌, ◌≡◌, ◌++◌, List}
+use Rattle.std.proofs.Common.{map, ap, ◌∙◌, ◌≡◌, ◌++◌, List}
 use Rattle.std.proofs.lemmas.Result.{IfOk-weaker}
 use Rattle.lfg_terms.specs.declared.grammar.Schema.{Schema}
 use Rattle.lfg_terms.specs.declared.path_expr.PathExpr.{PathExpr}

@@ -1,10 +1,8 @@
-use Rattle.std.proofs.Common.{rules, arith, map, length, ap, sym, ◌∙◌, ◌≡◌, ◌<◌, ◌++◌, ◌∷◌, [], subst, Option, ℕ, List}
+use Rattle.std.proofs.Common.{arith, map, sym, ◌++◌, ◌∷◌, [], subst, Option}
 use Rattle.std.specs.Option.{option_map}
-use Rattle.std.proofs.lemmas.List.{length-map}
 use Rattle.lfg_model.specs.DraftForms.{template_form}
 use Rattle.lfg_model.specs.TemplateRules.{IsCyclic, template_entry, template_name}
 use Rattle.lfg_model.proofs.ListLaws.{In-map}
-use Rattle.lfg_templates.specs.Graphs.{place_in, row_of, graph_of, Walks}
 use Rattle.lfg_templates.specs.Spots.{Spot, Finds}
 use Rattle.lfg_templates.specs.Views.{spot_of}
 use Rattle.lfg_templates.proofs.Cycling.{in_place, graph_length, cyclic_from_walks, walks_from_cyclic}

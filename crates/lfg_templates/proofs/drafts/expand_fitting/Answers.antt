@@ -1,4 +1,4 @@
-use Rattle.std.proofs.Common.{◌≡◌, inr, length, map, ap, sym, ◌∙◌, subst}
+use Rattle.std.proofs.Common.{inr, length, ap, sym, ◌∙◌}
 use Rattle.std.proofs.lemmas.List.{length-map}
 use Rattle.lfg_model.specs.DraftForms.{draft_form, plain_form, template_form}
 use Rattle.lfg_templates.proofs.Fitting.{lead_at, too_much, not_too_much}

@@ -1,4 +1,4 @@
-use Rattle.std.proofs.Common.{rules, arith, ◌≡◌, ◌<◌, ◌≤◌, List, map, take, length, subst, sym, ap, ◌∙◌, Vec, Global}
+use Rattle.std.proofs.Common.{rules, arith, ◌≡◌, ◌<◌, ◌≤◌, List, map, subst, ap, ◌∙◌, Vec, Global}
 use Rattle.std.proofs.lemmas.List.{take_all}
 use Rattle.std.proofs.lemmas.Result.{IfOk-weaker}
 use Rattle.lfg_terms.specs.declared.grammar.Schema.{Schema, size-Schema}
@@ -6,7 +6,7 @@ use Rattle.lfg_terms.specs.declared.grammar.Schema.TheViews.{the_lemmas}
 use Rattle.lfg_terms.specs.declared.path_expr.PathExpr.{PathExpr}
 use Rattle.lfg_model.specs.RightSides.{draft_schema_of, draft_annotation_of, draft_branches_from}
 use Rattle.lfg_model.specs.DraftForms.{template_form}
-use Rattle.lfg_model.specs.Templates.{Binding, Becomes, AllBecome, BranchesBecome, nothing, no_more}
+use Rattle.lfg_model.specs.Templates.{Becomes, AllBecome, BranchesBecome, nothing, no_more}
 use Rattle.lfg_templates.specs.Views.{binding_of}
 use Rattle.lfg_templates.specs.Depth.{deepest, heaviest}
 use Rattle.lfg_templates.proofs.Becoming.{becomes_define, becomes_constrain, becomes_exists, becomes_member, becomes_mark, becomes_maybe, becomes_either, becomes_call, alone_becomes, all_more, branches_more}

@@ -1,4 +1,4 @@
-use Rattle.std.proofs.Common.{rules, arith, sym, subst, List, map, take, ap, ◌∙◌}
+use Rattle.std.proofs.Common.{arith, sym, subst, List, map, take}
 use Rattle.std.proofs.lemmas.List.{take_all}
 use Rattle.std.specs.Option.{option_map}
 use Rattle.lfg_model.specs.TemplateRules.{Headed, Repeated, headed, head_entry, head_name}

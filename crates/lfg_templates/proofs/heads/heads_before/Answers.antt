@@ -1,4 +1,4 @@
-use Rattle.std.proofs.Common.{rules, take, length}
+use Rattle.std.proofs.Common.{rules}
 use Rattle.lfg_templates.proofs.Heading.{item_before, not_before_more}
 use Rattle.lfg_templates.proofs.heads.heads_before.Goals as goal
 

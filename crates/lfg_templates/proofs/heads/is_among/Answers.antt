@@ -1,4 +1,4 @@
-use Rattle.std.proofs.Common.{rules, take, length}
+use Rattle.std.proofs.Common.{rules}
 use Rattle.lfg_templates.proofs.Heading.{item_among, not_among_more}
 use Rattle.lfg_templates.proofs.heads.is_among.Goals as goal
 

@@ -1,4 +1,4 @@
-use Rattle.std.proofs.Common.{rules, arith, subst, List}
+use Rattle.std.proofs.Common.{arith, subst, List}
 use Rattle.std.proofs.lemmas.List.{take_all}
 use Rattle.lfg_model.specs.Terms.{Name}
 use Rattle.lfg_model.specs.TemplateRules.{Twice}

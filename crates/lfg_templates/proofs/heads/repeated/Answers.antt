@@ -1,8 +1,8 @@
-use Rattle.std.proofs.Common.{rules, sym, ap, ◌∙◌, ◌≡◌, subst, List, map, Option, ◌++◌}
+use Rattle.std.proofs.Common.{sym, ap, ◌∙◌, subst, map, Option, ◌++◌}
 use Rattle.std.specs.Option.{option_map}
-use Rattle.lfg_model.specs.DraftForms.{draft_form, rule_form, template_form, word_form}
-use Rattle.lfg_model.specs.TemplateRules.{Head, Repeated, headed, heads, head_entry, rule_head, template_head, reading_head, head_name}
-use Rattle.lfg_templates.specs.Spots.{Spot, Finds, earlier_of}
+use Rattle.lfg_model.specs.DraftForms.{rule_form, template_form, word_form}
+use Rattle.lfg_model.specs.TemplateRules.{Repeated, headed, head_entry, rule_head, template_head, reading_head, head_name}
+use Rattle.lfg_templates.specs.Spots.{Spot, Finds}
 use Rattle.lfg_templates.specs.Views.{head_of, spot_of}
 use Rattle.lfg_templates.proofs.Firsts.{finds_joined}
 use Rattle.lfg_templates.proofs.Heading.{finds_at}

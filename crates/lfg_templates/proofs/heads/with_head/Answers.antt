@@ -1,6 +1,6 @@
-use Rattle.std.proofs.Common.{rules, sym, subst, List, map, Option, Some, inl, inr, ◌++◌, [], ◌∷◌}
+use Rattle.std.proofs.Common.{sym, subst, map, Option, inl, inr, ◌++◌, [], ◌∷◌}
 use Rattle.std.specs.Option.{option_map}
-use Rattle.lfg_model.specs.TemplateRules.{Headed, Repeated, head_entry, head_name}
+use Rattle.lfg_model.specs.TemplateRules.{Repeated, head_entry, head_name}
 use Rattle.lfg_templates.specs.Spots.{Spot, Finds}
 use Rattle.lfg_templates.specs.Views.{head_of, spot_of}
 use Rattle.lfg_templates.proofs.Firsts.{finds_more, finds_same}

@@ -1,6 +1,6 @@
-use Rattle.std.proofs.Common.{arith, map, List, subst}
+use Rattle.std.proofs.Common.{map}
 use Rattle.lfg_model.specs.DraftForms.{template_form, word_form}
-use Rattle.lfg_model.specs.Templates.{Each, end, ReadingBecomes}
+use Rattle.lfg_model.specs.Templates.{end, ReadingBecomes}
 use Rattle.lfg_templates.proofs.Eaching.{each_more}
 use Rattle.lfg_templates.proofs.Measures.{In_item}
 use Rattle.lfg_templates.proofs.plain.expand_readings.Goals as goal

@@ -1,9 +1,8 @@
-use Rattle.std.proofs.Common.{map, List, subst, sym, ap, ◌∙◌, ◌≡◌}
+use Rattle.std.proofs.Common.{List, subst, ◌∙◌}
 use Rattle.lfg_terms.specs.declared.draft.DraftRule.{DraftRule}
 use Rattle.lfg_terms.specs.declared.draft.LexEntry.{LexEntry}
 use Rattle.lfg_model.specs.Lists.{In}
-use Rattle.lfg_model.specs.DraftForms.{template_form, rule_form, word_form}
-use Rattle.lfg_model.specs.Templates.{Each, RuleBecomes, ReadingBecomes}
+use Rattle.lfg_model.specs.DraftForms.{rule_form, word_form}
 use Rattle.lfg_model.proofs.ListLaws.{In-map}
 use Rattle.lfg_templates.proofs.plain.plain.Goals as goal
 

@@ -1,11 +1,11 @@
-use Rattle.std.proofs.Common.{rules, arith, map, ap, sym, ◌∙◌, ◌≡◌, List, subst}
+use Rattle.std.proofs.Common.{rules, arith, map, ap, ◌∙◌, List, subst}
 use Rattle.std.proofs.lemmas.List.{take_all}
 use Rattle.lfg_terms.specs.declared.draft.Rhs.{Rhs}
 use Rattle.lfg_terms.specs.declared.draft.Rhs.TheViews.{the_lemmas}
 use Rattle.lfg_model.specs.RightSides.{right_side_of, right_sides_of}
 use Rattle.lfg_model.specs.DraftForms.{template_form}
-use Rattle.lfg_model.specs.Templates.{SideBecomes, SidesBecome, no_part}
-use Rattle.lfg_model.proofs.RightSideViews.{view_item, view_row, view_one_of, view_maybe, view_star, view_plus}
+use Rattle.lfg_model.specs.Templates.{SidesBecome, no_part}
+use Rattle.lfg_model.proofs.RightSideViews.{view_row, view_maybe}
 use Rattle.lfg_templates.proofs.Siding.{becomes_row, becomes_one_of, becomes_maybe, becomes_star, becomes_plus, sides_more, part_leads, leads_at}
 use Rattle.lfg_templates.proofs.sides.+side.Goals as goal
 

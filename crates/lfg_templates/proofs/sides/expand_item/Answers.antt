@@ -1,4 +1,4 @@
-use Rattle.std.proofs.Common.{rules, map, ap, sym, ◌≡◌}
+use Rattle.std.proofs.Common.{rules, map}
 use Rattle.lfg_model.specs.DraftForms.{template_form}
 use Rattle.lfg_templates.proofs.Siding.{becomes_bare, becomes_annotated, some_leads}
 use Rattle.lfg_templates.proofs.sides.expand_item.Goals as goal

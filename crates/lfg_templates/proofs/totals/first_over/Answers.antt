@@ -1,4 +1,4 @@
-use Rattle.std.proofs.Common.{rules, arith, ap, get_or, length, take, map}
+use Rattle.std.proofs.Common.{arith, ap, get_or}
 use Rattle.std.proofs.lemmas.List.{take_all}
 use Rattle.lfg_templates.specs.Counts.{summed}
 use Rattle.lfg_templates.proofs.Counting.{summed_more}

@@ -1,13 +1,7 @@
-use Rattle.std.proofs.Common.{rules, arith, ap, sym, ◌∙◌, ◌≡◌, ◌++◌, List, map, refl}
-use Rattle.std.proofs.lemmas.List.{map-append}
+use Rattle.std.proofs.Common.{rules, map}
 use Rattle.std.proofs.lemmas.List.Sorted.{IsNonDecreasingBy-from_sort_by_key}
-use Rattle.lfg_terms.specs.declared.draft.DraftRule.{DraftRule}
-use Rattle.lfg_terms.specs.declared.draft.LexEntry.{LexEntry}
-use Rattle.lfg_terms.specs.declared.draft.Template.{Template}
-use Rattle.lfg_model.specs.DraftForms.{draft_form, rule_form, template_form, word_form}
-use Rattle.lfg_model.specs.TemplateRules.{Weight}
-use Rattle.lfg_templates.specs.Counts.{call_count, rule_count, reading_count, draft_counts, capped_weight}
-use Rattle.lfg_templates.specs.Views.{weight_of}
+use Rattle.lfg_model.specs.DraftForms.{draft_form, template_form}
+use Rattle.lfg_templates.specs.Counts.{call_count, draft_counts}
 use Rattle.lfg_templates.proofs.Summing.{same_first, counted}
 use Rattle.lfg_templates.proofs.totals.first_too_much.Goals as goal
 
