@@ -2,6 +2,9 @@
 //! streams to `run`, and ends with the exit status.
 #![tactic(auto)]
 
+#[cfg(test)]
+mod tests;
+
 ghost use Rattle.std.specs.Prelude.{◌≡◌};
 ghost use Rattle.lfg_model.specs.Output.{exit_status};
 
