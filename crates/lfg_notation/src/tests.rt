@@ -613,7 +613,19 @@ fn schemata_are_read(rt: HostRuntime) -> Result<(), Fail> {
             "1 a N * !< A PRED>='+ A B; C'\n",
         ),
         ("(^ PRED)='-<>'", "1 a N * ^< PRED>='-;'\n"),
-        // none of these
+    ] {
+        let text = format!(in rt.alloc();
+            "A B LEXICON (1.0) a N * {schemata}. ---- A B CONFIG (1.0) ----"
+        )?;
+        let seen = shown(&rt, rt.alloc(), text.as_str().as_bytes())?;
+        assert_eq!(rt; seen.as_str(), wanted);
+    }
+    Ok(())
+}
+
+#[test]
+fn what_is_no_schema_is_refused(rt: HostRuntime) -> Result<(), Fail> {
+    for (schemata, wanted) in [
         ("(^ A)='p'", "entry 1 is none"),
         ("^='p'", "entry 1 is none"),
         ("(^ PRED A)='p'", "entry 1 is none"),
