@@ -48,3 +48,8 @@ pub mod ThinTreeLaws
 pub mod TreeOrder
 pub mod Within
 pub mod ThinLaws
+pub mod Acyclic
+pub mod EdgesOnce
+pub mod Grounding
+pub mod PointTies
+pub mod Spans

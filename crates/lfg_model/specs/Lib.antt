@@ -37,3 +37,7 @@ pub mod Trees
 pub mod Unambiguous
 pub mod Templates
 pub mod TemplateRules
+pub mod Grounded
+pub mod Kept
+pub mod Points
+pub mod Spots
