@@ -1,6 +1,6 @@
 -- A relation without cycles over finitely many things comes to an end.
 use Rattle.std.proofs.Common.{◌≡◌, ℕ, zero, suc, ◌+◌, ◌<◌, ◌≤◌, List, [], ◌∷◌, length, refl, sym, ◌∙◌, subst, arith, inl, inr, ◌⊎◌}
-use Rattle.lfg_model.specs.Lists.{In, here, Once, none, more}
+use Rattle.lfg_model.specs.Lists.{In, Once, none, more}
 use Rattle.lfg_model.specs.Grounded.{Chain, link, links}
 use Rattle.lfg_model.proofs.ListLaws.{In-cons_cases, In-nil, length-le_from_Once}
 

@@ -53,3 +53,6 @@ pub mod EdgesOnce
 pub mod Grounding
 pub mod PointTies
 pub mod Spans
+pub mod Building
+pub mod FillableLaws
+pub mod Standing

@@ -1,6 +1,6 @@
 -- What whole derivations have, said without a derivation: first what can be derived, from the words
 -- up, then what of it the root is built from.
-use Rattle.std.specs.Prelude.{◌≡◌, ◌↔◌, ℕ, ◌+◌, ◌≤◌, Option, Some, None, List, length, slice_get}
+use Rattle.std.specs.Prelude.{◌≡◌, ◌↔◌, ℕ, ◌+◌, ◌≤◌, Some, None, List, length, slice_get}
 use Rattle.lfg_terms.specs.declared.node.Edge.{Edge}
 use Rattle.lfg_terms.specs.declared.literal.Site.TheVariants as site
 use Rattle.lfg_terms.specs.declared.grammar.Item.{Item}
@@ -39,8 +39,8 @@ pub data Ends (g : Grammar) (s : List TokenForms) (rule : Rule) (end : ℕ) : �
 -- The edge is the root's over all tokens, or it stands as a daughter in what a kept edge can be
 -- built from.
 pub data Kept (g : Grammar) (s : List TokenForms) : Edge → Type 0 where
-  root : 1 ≤ length s → Derivable g s (edge g.root 0 (length s)) → Kept g s (edge g.root 0 (length s))
-  below : {e : Edge} {q at mid : ℕ} (rule : Rule) (p : ℕ) (item : Item) (cat : Name) → Kept g s e → rule_of g e.cat ≡ Some rule
+  as_root : 1 ≤ length s → Derivable g s (edge g.root 0 (length s)) → Kept g s (edge g.root 0 (length s))
+  as_daughter : {e : Edge} {q at mid : ℕ} (rule : Rule) (p : ℕ) (item : Item) (cat : Name) → Kept g s e → rule_of g e.cat ≡ Some rule
       → Reaches g s rule e.from q at → CanFollow rule.graph q p → item_at rule.items p ≡ Some item → item.cat ≡ Some cat
       → Derivable g s (edge cat at mid) → Ends g s rule e.to p mid → Kept g s (edge cat at mid)
 

@@ -41,3 +41,4 @@ pub mod Grounded
 pub mod Kept
 pub mod Points
 pub mod Spots
+pub mod Fillable

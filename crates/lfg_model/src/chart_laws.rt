@@ -1,10 +1,23 @@
 //! The laws of the shared chart. Each is the contract of a function with nothing to do: that the
 //! function is proved says that the law holds.
 
+ghost use Rattle.lfg_model.specs.Fillable.{FillableWithoutEmptyDisjunctions};
 ghost use Rattle.lfg_model.specs.Grounded.{EdgesCoverTokens, NoEdgeTwice};
+ghost use Rattle.lfg_model.specs.Kept.{KeptIsStanding};
 
 /// In a grounded grammar no derivation has an edge twice, and each edge of one covers a token.
 pub fn no_edge_twice()
     ensures once { NoEdgeTwice }
     ensures covers { EdgesCoverTokens }
+{}
+
+/// Where each disjunction of a grammar has a branch, each annotation has picks that fit it.
+pub fn fillable_without_empty_disjunctions()
+    ensures { FillableWithoutEmptyDisjunctions }
+{}
+
+/// What can be derived from the words up, and what of it the root is built from, are the edges,
+/// steps, entries and picks of whole derivations.
+pub fn kept_is_standing()
+    ensures { KeptIsStanding }
 {}
