@@ -56,3 +56,4 @@ pub mod Spans
 pub mod Building
 pub mod FillableLaws
 pub mod Standing
+pub mod RowLaws

@@ -42,3 +42,4 @@ pub mod Kept
 pub mod Points
 pub mod Spots
 pub mod Fillable
+pub mod ChartRows

@@ -1,6 +1,7 @@
 //! The laws of the shared chart. Each is the contract of a function with nothing to do: that the
 //! function is proved says that the law holds.
 
+ghost use Rattle.lfg_model.specs.ChartRows.{RowsMean};
 ghost use Rattle.lfg_model.specs.Fillable.{FillableWithoutEmptyDisjunctions};
 ghost use Rattle.lfg_model.specs.Grounded.{EdgesCoverTokens, NoEdgeTwice};
 ghost use Rattle.lfg_model.specs.Kept.{KeptIsStanding};
@@ -20,4 +21,10 @@ pub fn fillable_without_empty_disjunctions()
 /// steps, entries and picks of whole derivations.
 pub fn kept_is_standing()
     ensures { KeptIsStanding }
+{}
+
+/// A row of a chart has just what it means: edges that can be derived, items of a rule that are
+/// reached, and items from which the rule can end.
+pub fn rows_mean()
+    ensures { RowsMean }
 {}
