@@ -57,3 +57,4 @@ pub mod Building
 pub mod FillableLaws
 pub mod Standing
 pub mod RowLaws
+pub mod ChartLaws

@@ -1,5 +1,5 @@
 -- Points, and ways to go on, that compare as equal are equal.
-use Rattle.std.proofs.Common.{◌≡◌, ◌↔◌, IsTrue, true, ℕ, refl, subst, arith}
+use Rattle.std.proofs.Common.{◌≡◌, ◌↔◌, IsTrue, true, refl, subst}
 use Rattle.std.specs.declared.cmp.Ordering.{Ordering}
 use Rattle.std.specs.declared.cmp.Ordering.TheVariants.{Less, Equal, Greater}
 use Rattle.std.specs.Ordering.{nat_cmp, ordering_then, is_eq, eq_by_cmp}

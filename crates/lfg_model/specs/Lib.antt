@@ -43,3 +43,4 @@ pub mod Points
 pub mod Spots
 pub mod Fillable
 pub mod ChartRows
+pub mod Charts

@@ -1,6 +1,7 @@
 //! The laws of the shared chart. Each is the contract of a function with nothing to do: that the
 //! function is proved says that the law holds.
 
+ghost use Rattle.lfg_model.specs.Charts.{ChartHasAllNexts, OneChart};
 ghost use Rattle.lfg_model.specs.ChartRows.{RowsMean};
 ghost use Rattle.lfg_model.specs.Fillable.{FillableWithoutEmptyDisjunctions};
 ghost use Rattle.lfg_model.specs.Grounded.{EdgesCoverTokens, NoEdgeTwice};
@@ -27,4 +28,11 @@ pub fn kept_is_standing()
 /// reached, and items from which the rule can end.
 pub fn rows_mean()
     ensures { RowsMean }
+{}
+
+/// A sentence has one chart at most, and a chart tells of each point all ways in which whole
+/// derivations go on there.
+pub fn one_chart()
+    ensures one { OneChart }
+    ensures all { ChartHasAllNexts }
 {}
