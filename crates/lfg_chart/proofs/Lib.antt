@@ -1,0 +1,4 @@
+pub mod CellLaws
+pub mod FillLaws
+pub mod PlaceLaws
+pub mod TableLaws

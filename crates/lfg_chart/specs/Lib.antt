@@ -1,0 +1,4 @@
+pub mod Cells
+pub mod Filling
+pub mod Places
+pub mod Tables

@@ -1,0 +1,7 @@
+//! The chart of a sentence: what stands in its whole derivations, without a list of them.
+#![tactic(auto)]
+
+mod fill;
+mod links;
+mod places;
+mod table;
