@@ -1,6 +1,9 @@
 pub mod CellLaws
 pub mod FillLaws
 pub mod LinkLaws
+pub mod RuleLaws
+pub mod PartLaws
 pub mod PlaceLaws
 pub mod Searching
 pub mod TableLaws
+pub mod WordLaws

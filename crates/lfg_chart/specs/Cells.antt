@@ -54,3 +54,10 @@ pub record Added (old new : List (Vec Places Global)) (part index : ℕ) (places
   pub exact : (p i k : ℕ) → HasAt new p i k ↔ (HasAt old p i k ⊎ ((p ≡ part) × (i ≡ index) × Has places k))
   pub same : changed ≡ false → new ≡ old
   pub less : changed ≡ true → room new < room old
+
+-- A part with this number of empty cells is there behind the others.
+pub record Grown (old new : List (Vec Places Global)) (count : ℕ) : Type 0 where
+  pub more : length new ≡ length old + 1
+  pub cells : (p i : ℕ) → IsCell old p i → IsCell new p i
+  pub here : (i : ℕ) → i < count → IsCell new (length old) i
+  pub empty : (p i k : ℕ) → HasAt new p i k → HasAt old p i k

@@ -1,7 +1,11 @@
 -- What a table holds, and what is put into it.
-use Rattle.std.specs.Prelude.{◌≡◌, ℕ, ◌+◌, ◌*◌, ◌<◌, ◌⊎◌, ◌↔◌, Bool, true, false}
+use Rattle.std.specs.Prelude.{◌≡◌, ℕ, ◌+◌, ◌*◌, ◌<◌, ◌≤◌, ◌⊎◌, ◌↔◌, Bool, true, false, Option, Some, List, length, slice_get}
+use Rattle.std.specs.declared.vec.Vec.{Vec}
+use Rattle.std.specs.declared.alloc.Global.{Global}
+use Rattle.lfg_chart.specs.declared.links.RuleLinks.{RuleLinks}
 use Rattle.lfg_chart.specs.declared.places.Places.{Places}
 use Rattle.lfg_chart.specs.declared.table.Row.{Row}
+use Rattle.lfg_chart.specs.declared.table.Row.TheVariants.{Whole, Read, Left}
 use Rattle.lfg_chart.specs.declared.table.Table.{Table}
 use Rattle.lfg_chart.specs.Cells.{HasAt, IsCell, part_of, item_of, room}
 use Rattle.lfg_chart.specs.Places.{Has}
@@ -33,3 +37,27 @@ pub record Adds (old new : Table) (row : Row) (from : ℕ) (places : Places) (ch
   pub step : Step old new changed
   pub only : (r : Row) (i k : ℕ) → Holds new r i k → Holds old r i k ⊎ ((r ≡ row) × (i ≡ from) × Has places k)
   pub added : (k : ℕ) → k < old.size → Has places k → Holds new row from k
+
+-- the three parts of a category are there behind the others, empty, the last two with rows for all
+-- items of its rule
+pub record GrownBy (old new : List (Vec Places Global)) (size : ℕ) (rule : Option RuleLinks) : Type 0 where
+  pub more : length new ≡ length old + 3
+  pub cells : (p i : ℕ) → IsCell old p i → IsCell new p i
+  pub whole : (i : ℕ) → i < size → IsCell new (length old) i
+  pub read : (r : RuleLinks) → rule ≡ Some r → (item i : ℕ) → item ≤ r.size → i < size → IsCell new (length old + 1) (item * size + i)
+  pub left : (r : RuleLinks) → rule ≡ Some r → (item i : ℕ) → item ≤ r.size → i < size → IsCell new (length old + 2) (item * size + i)
+  pub empty : (p i k : ℕ) → HasAt new p i k → HasAt old p i k
+
+-- the table has rows for all categories and for all items of their rules
+pub record HasRows (rules : List (Option RuleLinks)) (table : Table) : Type 0 where
+  pub whole : (cat : ℕ) → cat < length rules → IsRow table (Whole cat)
+  pub read : (cat : ℕ) (r : RuleLinks) → slice_get rules cat ≡ Some (Some r) → (item : ℕ) → item ≤ r.size → IsRow table (Read cat item)
+  pub left : (cat : ℕ) (r : RuleLinks) → slice_get rules cat ≡ Some (Some r) → (item : ℕ) → item ≤ r.size → IsRow table (Left cat item)
+
+-- the first `count` categories have their parts
+pub record HasParts (rules : List (Option RuleLinks)) (count size : ℕ) (parts : List (Vec Places Global)) : Type 0 where
+  pub three : length parts ≡ count * 3
+  pub whole : (cat i : ℕ) → cat < count → i < size → IsCell parts (cat * 3) i
+  pub read : (cat : ℕ) (r : RuleLinks) → cat < count → slice_get rules cat ≡ Some (Some r) → (item i : ℕ) → item ≤ r.size → i < size → IsCell parts (cat * 3 + 1) (item * size + i)
+  pub left : (cat : ℕ) (r : RuleLinks) → cat < count → slice_get rules cat ≡ Some (Some r) → (item i : ℕ) → item ≤ r.size → i < size → IsCell parts (cat * 3 + 2) (item * size + i)
+  pub empty : (p i k : ℕ) → ¬ HasAt parts p i k

@@ -2,6 +2,9 @@
 #![tactic(auto)]
 
 mod fill;
+mod kept;
 mod links;
 mod places;
+mod rules;
 mod table;
+mod words;

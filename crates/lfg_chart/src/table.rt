@@ -1,9 +1,12 @@
-ghost use Rattle.std.specs.Prelude.{◌≡◌, ◌↔◌, ℕ, ◌+◌, ◌*◌, ◌<◌, ◌^◌};
-ghost use Rattle.lfg_chart.specs.Cells.{item_of, part_of};
+ghost use Rattle.std.specs.Prelude.{◌≡◌, ◌↔◌, ℕ, IfOk, OnOk, ◌≤◌, ◌+◌, ◌*◌, ◌<◌, ◌^◌};
+ghost use Rattle.lfg_chart.specs.Cells.{Grown, item_of, part_of};
 ghost use Rattle.lfg_chart.specs.Places.{Has};
-ghost use Rattle.lfg_chart.specs.Tables.{Adds, Holds, IsRow};
+ghost use Rattle.lfg_chart.specs.Tables.{Adds, GrownBy, HasRows, Holds, IsRow};
+ghost use Rattle.lfg_chart.specs.declared.table.Row.{Row};
 
+use crate::links::RuleLinks;
 use crate::places::Places;
+use std::alloc::{AllocError, Global};
 
 /// What a row of a table tells of two places.
 #[derive(Clone, Copy, Debug)]
@@ -80,5 +83,49 @@ impl Table {
         }
         self.parts[part][index] = new;
         true
+    }
+}
+
+/// Adds a part of this number of empty cells.
+fn push_part(alloc: Global, parts: &mut Vec<Vec<Places>>, count: usize) -> Result<(), AllocError>
+    ensures { OnOk result (Grown parts.old.items parts.new.items count) }
+{
+    parts.push(vec![in alloc; Places::none(); count]?)?;
+    Ok(())
+}
+
+/// Adds the three parts of a category with this rule, if it has one.
+fn push_category(
+    alloc: Global,
+    parts: &mut Vec<Vec<Places>>,
+    rule: &Option<RuleLinks>,
+    size: usize,
+) -> Result<(), AllocError>
+    requires { size ≤ 128 }
+    ensures { OnOk result (GrownBy parts.old.items parts.new.items size rule.now) }
+{
+    let items = match rule {
+        Some(rule) => rule.size as usize + 1,
+        None => 0,
+    };
+    push_part(alloc, parts, size)?;
+    push_part(alloc, parts, items * size)?;
+    push_part(alloc, parts, items * size)?;
+    Ok(())
+}
+
+impl Table {
+    /// The empty table for the rules of the categories and this number of places.
+    pub fn new(alloc: Global, rules: &[Option<RuleLinks>], size: usize) -> Result<Table, AllocError>
+        requires few { size ≤ 128 }
+        ensures size { IfOk result (λ table. table.size ≡ size) }
+        ensures rows { IfOk result (HasRows rules.now) }
+        ensures empty { IfOk result (λ table. (row : Row) (from to : ℕ) → ¬ Holds table row from to) }
+    {
+        let mut parts = Vec::new(alloc);
+        for rule in rules {
+            push_category(alloc, &mut parts, rule, size)?;
+        }
+        Ok(Table { size, parts })
     }
 }
