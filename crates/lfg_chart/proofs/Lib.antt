@@ -1,3 +1,4 @@
+pub mod AgendaLaws
 pub mod CellLaws
 pub mod FillLaws
 pub mod LinkLaws
