@@ -37,3 +37,9 @@ pub mod Trees
 pub mod Unambiguous
 pub mod Templates
 pub mod TemplateRules
+pub mod Firsts
+pub mod Grounded
+pub mod Links
+pub mod Loaded
+pub mod Loads
+pub mod Settings
