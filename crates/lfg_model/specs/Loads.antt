@@ -165,8 +165,8 @@ pub data IsCategoryOf (g : Grammar) (cat : Name) : Type 0 where
 pub record Assembles (p : PlainForm) (g : Grammar) : Type 0 where
   pub root : words_set (codes "ROOTCAT") p.settings ≡ Some (g.root ∷ [])
   pub governable : g.governable ≡ words_or_none (words_set (codes "GOVERNABLERELATIONS") p.settings)
-  pub gensize : IsSetTo (codes "GENSIZE") 60 p.settings g.gensize
-  pub maxfacts : IsSetTo (codes "MAXFACTS") 200000 p.settings g.maxfacts
+  pub gensize : IsSetTo (codes "GENSIZE") 400 60 p.settings g.gensize
+  pub maxfacts : IsSetTo (codes "MAXFACTS") 200000 200000 p.settings g.maxfacts
   pub depth : ℕ
   pub is_depth : IsDepth p.settings depth
   pub rules : Each (LoadsRule depth) p.rules g.rules

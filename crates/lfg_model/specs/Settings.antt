@@ -15,9 +15,8 @@ greatest_of key =
     (cond (same_name key (codes "GENSIZE")) (Some 400)
     (cond (same_name key (codes "MAXFACTS")) (Some 200000) None))
 
--- the words are a number from 1 to the greatest, without a zero in front
-pub record IsNumberTo (greatest : ℕ) (words : List Name) : Type 0 where
-  pub number : ℕ
+-- the words are this number, which is from 1 to the greatest, without a zero in front
+pub record IsNumberTo (greatest : ℕ) (words : List Name) (number : ℕ) : Type 0 where
   pub is : words ≡ decimal number ∷ []
   pub least : 1 ≤ number
   pub most : number ≤ greatest
@@ -25,7 +24,7 @@ pub record IsNumberTo (greatest : ℕ) (words : List Name) : Type 0 where
 -- a number of this kind is asked for, and the words are none
 abbrev pub IsOutOfRange : Option ℕ → List Name → Type 0
 IsOutOfRange None words = ⊥
-IsOutOfRange (Some greatest) words = ¬ IsNumberTo greatest words
+IsOutOfRange (Some greatest) words = (number : ℕ) → ¬ IsNumberTo greatest words number
 
 -- a setting, and the keys of those before it
 pub record Placed : Type 0 where
@@ -67,18 +66,18 @@ abbrev pub words_set : Name → List Setting → Option (List Name)
 words_set key [] = None
 words_set key (s ∷ ss) = cond (same_name s.key key) (Some s.words) (words_set key ss)
 
--- the number of these words, or this one where there are none
-abbrev pub IsNumberOr : ℕ → Option (List Name) → ℕ → Type 0
-IsNumberOr otherwise None number = number ≡ otherwise
-IsNumberOr otherwise (Some words) number = words ≡ decimal number ∷ []
+-- the number of these words, at most the greatest, or this one where there are none
+abbrev pub IsNumberOr : ℕ → ℕ → Option (List Name) → ℕ → Type 0
+IsNumberOr greatest otherwise None number = number ≡ otherwise
+IsNumberOr greatest otherwise (Some words) number = IsNumberTo greatest words number
 
--- the key is set to the number, or is not set and the number is this one
-abbrev pub IsSetTo : Name → ℕ → List Setting → ℕ → Type 0
-IsSetTo key otherwise settings number = IsNumberOr otherwise (words_set key settings) number
+-- the key is set to the number, at most the greatest, or is not set and the number is this one
+abbrev pub IsSetTo : Name → ℕ → ℕ → List Setting → ℕ → Type 0
+IsSetTo key greatest otherwise settings number = IsNumberOr greatest otherwise (words_set key settings) number
 
 -- the greatest number of attributes of a string of a path: 3 where it is not set
 abbrev pub IsDepth : List Setting → ℕ → Type 0
-IsDepth settings depth = IsSetTo (codes "UNCERTAINTYDEPTH") 3 settings depth
+IsDepth settings depth = IsSetTo (codes "UNCERTAINTYDEPTH") 8 3 settings depth
 
 -- these words, or none
 abbrev pub words_or_none : Option (List Name) → List Name
