@@ -48,3 +48,6 @@ pub mod ThinTreeLaws
 pub mod TreeOrder
 pub mod Within
 pub mod ThinLaws
+pub mod FirstLaws
+pub mod ExpansionLaws
+pub mod SettingLaws
