@@ -1,10 +1,9 @@
 -- A draft becomes one thing at most once its calls of templates are replaced.
-use Rattle.std.proofs.Common.{◌≡◌, Option, Some, List, [], ◌∷◌, ◌++◌, map, refl, sym, ap, ◌∙◌, subst}
+use Rattle.std.proofs.Common.{◌≡◌, Some, List, [], ◌∷◌, ◌++◌, map, refl, sym, ap, ◌∙◌, subst}
 use Rattle.lfg_model.specs.DraftForms.{TemplateForm, RuleForm, WordForm, DraftForm, PlainForm}
 use Rattle.lfg_model.specs.RightSides.{DraftSchema, DraftAnnotation, DraftBranches, either, maybe, draft_annotation_from, draft_branches_from, RightSide, RightSides, item, optional, and_side}
 use Rattle.lfg_model.specs.RightSides as side
-use Rattle.lfg_model.specs.Templates.{Binding, unbound, name_with, template_named, Becomes, defining, constraining, existential, membership, marked, disjunction, option, called, AllBecome, nothing, one_more, BranchesBecome, no_more, branch_more, SideBecomes, bare, annotated, in_row, in_branches, in_option, in_star, in_plus, SidesBecome, no_part, part_more, Each, end, and, RuleBecomes, ReadingBecomes, Expands}
-use Rattle.lfg_model.specs.Terms.{Name}
+use Rattle.lfg_model.specs.Templates.{Binding, name_with, Becomes, defining, constraining, existential, membership, marked, disjunction, option, called, AllBecome, nothing, one_more, BranchesBecome, no_more, branch_more, SideBecomes, bare, annotated, in_row, in_branches, in_option, in_star, in_plus, SidesBecome, no_part, part_more, Each, end, and, RuleBecomes, ReadingBecomes, Expands}
 use Rattle.lfg_model.proofs.OneTree.{same_some}
 
 -- ---- lists that are related element by element

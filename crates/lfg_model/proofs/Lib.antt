@@ -51,3 +51,7 @@ pub mod ThinLaws
 pub mod FirstLaws
 pub mod ExpansionLaws
 pub mod SettingLaws
+pub mod AssemblyLaws
+pub mod LikeGrammars
+pub mod LoadedPaths
+pub mod LoadLaws

@@ -1,5 +1,5 @@
 -- Settings have one fault at most, and what they set is one number.
-use Rattle.std.proofs.Common.{◌≡◌, ℕ, ◌≤◌, Option, Some, None, List, [], ◌∷◌, decimal, codes, refl, sym, ap, ◌∙◌, arith}
+use Rattle.std.proofs.Common.{◌≡◌, ℕ, ◌≤◌, Option, Some, None, List, [], decimal, codes, refl, sym, ap, ◌∙◌, arith}
 use Rattle.std.proofs.lemmas.Fmt.{decimal_injective}
 use Rattle.lfg_terms.specs.declared.draft.Setting.{Setting}
 use Rattle.lfg_model.specs.Settings.{IsNumberTo, Placed, AreSettings, HasBadSetting, bad_setting, no_root, words_set, IsNumberOr, IsSetTo, IsDepth}
