@@ -48,3 +48,10 @@ pub mod ThinTreeLaws
 pub mod TreeOrder
 pub mod Within
 pub mod ThinLaws
+pub mod FirstLaws
+pub mod ExpansionLaws
+pub mod SettingLaws
+pub mod AssemblyLaws
+pub mod LikeGrammars
+pub mod LoadedPaths
+pub mod LoadLaws

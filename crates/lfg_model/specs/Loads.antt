@@ -214,6 +214,36 @@ pub record Loads (bytes : List ℕ) (g : Grammar) : Type 0 where
   pub acyclic : NoneHas (IsUnaryCycle g) g.rules
   pub linked : NoneHas IsUnlinked g.rules
 
+-- ---- grammars that are the same as plain data
+
+-- items of the same category and the same annotation
+pub record AreLikeItems (i j : Item) : Type 0 where
+  pub cat : i.cat ≡ j.cat
+  pub annotation : annotation_of i.schemata ≡ annotation_of j.schemata
+
+-- rules of the same category, with the same items in order, whose graphs walk the same rows
+pub record AreLikeRules (r q : Rule) : Type 0 where
+  pub cat : r.cat ≡ q.cat
+  pub items : Each AreLikeItems r.items q.items
+  pub walks : (w : List ℕ) → Walks r.graph w ↔ Walks q.graph w
+
+-- words of the same form, the same category and the same annotation
+pub record AreLikeWords (x y : Lex) : Type 0 where
+  pub form : x.form ≡ y.form
+  pub cat : x.cat ≡ y.cat
+  pub annotation : annotation_of x.schemata ≡ annotation_of y.schemata
+
+-- The grammars are the same as plain data: the same settings and categories, and in order the same
+-- rules and words. Of graphs it says that they walk the same rows.
+pub record AreAlike (g h : Grammar) : Type 0 where
+  pub root : g.root ≡ h.root
+  pub governable : g.governable ≡ h.governable
+  pub gensize : g.gensize ≡ h.gensize
+  pub maxfacts : g.maxfacts ≡ h.maxfacts
+  pub cats : g.cats ≡ h.cats
+  pub rules : Each AreLikeRules g.rules h.rules
+  pub words : Each AreLikeWords g.lexicon h.lexicon
+
 -- ---- paths that fail
 
 -- the path of a designator, if it has one
@@ -385,3 +415,7 @@ OneLoadFault = (bytes : List ℕ) (f g : GrammarFault) → LoadFault bytes f →
 -- Law: a file that a grammar is loaded from has no fault.
 abbrev pub LoadedHasNoFault : Type 0
 LoadedHasNoFault = (bytes : List ℕ) (g : Grammar) (f : GrammarFault) → Loads bytes g → LoadFault bytes f → ⊥
+
+-- Law: a file is loaded as one grammar: two are the same as plain data.
+abbrev pub OneLoadedGrammar : Type 0
+OneLoadedGrammar = (bytes : List ℕ) (g h : Grammar) → Loads bytes g → Loads bytes h → AreAlike g h
