@@ -58,3 +58,6 @@ pub mod FillableLaws
 pub mod Standing
 pub mod RowLaws
 pub mod ChartLaws
+pub mod OnePick
+pub mod SomePick
+pub mod ReachedLaws

@@ -44,3 +44,4 @@ pub mod Spots
 pub mod Fillable
 pub mod ChartRows
 pub mod Charts
+pub mod Picked
