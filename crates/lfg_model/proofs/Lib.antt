@@ -55,3 +55,16 @@ pub mod AssemblyLaws
 pub mod LikeGrammars
 pub mod LoadedPaths
 pub mod LoadLaws
+pub mod Acyclic
+pub mod EdgesOnce
+pub mod Grounding
+pub mod PointTies
+pub mod Spans
+pub mod Building
+pub mod FillableLaws
+pub mod Standing
+pub mod RowLaws
+pub mod ChartLaws
+pub mod OnePick
+pub mod SomePick
+pub mod ReachedLaws

@@ -1,11 +1,11 @@
--- What keeps the derivations of a sentence finite, and the law that no edge of one stands twice.
-use Rattle.std.specs.Prelude.{◌≡◌, ℕ, ◌⊎◌, Option, Some, None, List, [], ◌∷◌}
+-- What keeps the derivations of a sentence finite, and the laws that follow for their edges.
+use Rattle.std.specs.Prelude.{◌≡◌, ℕ, ◌<◌, ◌⊎◌, Some, None, List, [], ◌∷◌}
 use Rattle.lfg_terms.specs.declared.node.Edge.{Edge}
 use Rattle.lfg_terms.specs.declared.grammar.Item.{Item}
 use Rattle.lfg_terms.specs.declared.grammar.Rule.{Rule}
 use Rattle.lfg_terms.specs.declared.grammar.Grammar.{Grammar}
 use Rattle.lfg_terms.specs.declared.tree.TokenForms.{TokenForms}
-use Rattle.lfg_model.specs.Lists.{Once}
+use Rattle.lfg_model.specs.Lists.{In, Once}
 use Rattle.lfg_model.specs.Terms.{Name, Tree}
 use Rattle.lfg_model.specs.Derive.{rule_of, item_at, CanFollow, Walks, Derives}
 use Rattle.lfg_model.specs.Brackets.{edges}
@@ -51,3 +51,7 @@ pub record IsGrounded (g : Grammar) : Type 0 where
 -- Law: then no derivation has an edge twice.
 abbrev pub NoEdgeTwice : Type 0
 NoEdgeTwice = (g : Grammar) (s : List TokenForms) → IsGrounded g → (d : Tree) (e : Edge) → Derives g s d e → Once (edges d e.from)
+
+-- Law: and each edge of a derivation begins before its end.
+abbrev pub EdgesCoverTokens : Type 0
+EdgesCoverTokens = (g : Grammar) (s : List TokenForms) → IsGrounded g → (d : Tree) (e : Edge) → Derives g s d e → (x : Edge) → In x (edges d e.from) → x.from < x.to

@@ -43,3 +43,10 @@ pub mod Links
 pub mod Loaded
 pub mod Loads
 pub mod Settings
+pub mod Kept
+pub mod Points
+pub mod Spots
+pub mod Fillable
+pub mod ChartRows
+pub mod Charts
+pub mod Picked
