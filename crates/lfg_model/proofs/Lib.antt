@@ -35,6 +35,7 @@ pub mod RightSideNotationLaws
 pub mod RightSideViews
 pub mod RoundLaws
 pub mod SchemaCases
+pub mod SchemaViews
 pub mod SchemaNotationLaws
 pub mod Settling
 pub mod SolutionLaws
