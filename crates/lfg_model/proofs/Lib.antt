@@ -55,3 +55,8 @@ pub mod AssemblyLaws
 pub mod LikeGrammars
 pub mod LoadedPaths
 pub mod LoadLaws
+pub mod ThinExpansion
+pub mod ThinGraphs
+pub mod ThinSizes
+pub mod ThinAssembly
+pub mod ThinLoadLaws

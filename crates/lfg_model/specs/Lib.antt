@@ -43,3 +43,4 @@ pub mod Links
 pub mod Loaded
 pub mod Loads
 pub mod Settings
+pub mod ThinLoads
