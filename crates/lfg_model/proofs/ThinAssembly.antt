@@ -1,23 +1,21 @@
 -- The grammar of a thin draft is the one that the draft has in the notation.
-use Rattle.std.proofs.Common.{◌≡◌, ◌≢◌, ℕ, suc, ◌+◌, ◌≤◌, ◌↔◌, Bool, true, false, cond, IsTrue, Option, Some, None, List, [], ◌∷◌, ◌++◌, length, map, codes, refl, sym, ap, ◌∙◌, subst, arith, inl, inr, ◌⊎◌}
+use Rattle.std.proofs.Common.{◌≡◌, ◌≢◌, ℕ, ◌+◌, Bool, true, false, cond, IsTrue, Option, Some, None, List, [], ◌∷◌, ◌++◌, length, map, codes, refl, sym, ap, ◌∙◌, subst, arith, inl}
 use Rattle.std.specs.List.Sorted.{IsStrictlySortedBy}
-use Rattle.lfg_terms.specs.Order.{name_cmp, path_cmp}
-use Rattle.lfg_terms.specs.declared.grammar.Arrow.TheVariants as arrow
 use Rattle.lfg_terms.specs.declared.grammar.Item.{Item}
 use Rattle.lfg_terms.specs.declared.grammar.Rule.{Rule}
 use Rattle.lfg_terms.specs.declared.grammar.Lex.{Lex}
 use Rattle.lfg_terms.specs.declared.grammar.Grammar.{Grammar}
-use Rattle.lfg_model.specs.DraftForms.{RuleForm, WordForm, DraftForm, PlainForm}
-use Rattle.lfg_model.specs.Lists.{In, here, later, Lists}
+use Rattle.lfg_model.specs.DraftForms.{RuleForm, WordForm, DraftForm}
+use Rattle.lfg_model.specs.Lists.{In, here, later}
 use Rattle.lfg_model.specs.Loads.{HasStrings, LoadsPath, bare, strings, LoadsDes, LoadsVal, designator, atom, LoadsSchema, defining, LoadsAnnotation, nothing, schema_more, WrittenItem, items_of, all_items_of, same_structure, annotation_for, category_for, LoadsItem, LoadsRule, LoadsWord, IsCategoryOf, Assembles}
 use Rattle.lfg_model.specs.Loads as loaded
-use Rattle.lfg_model.specs.PathExpressions.{PathExpression, PathExpressions, attribute, expressions_from, HasRow, is_plain_row, are_plain_rows, Strings}
+use Rattle.lfg_model.specs.PathExpressions.{attribute, expressions_from, HasRow, are_plain_rows, Strings}
 use Rattle.lfg_model.specs.PathNotation.{path_row}
 use Rattle.lfg_model.specs.RightSideNotation.{side_row}
-use Rattle.lfg_model.specs.RightSides.{DraftAnnotation, no_schema, and_schema, draft_annotation_from, RightSide, right_sides_from}
+use Rattle.lfg_model.specs.RightSides.{no_schema, and_schema, draft_annotation_from, RightSide, right_sides_from}
 use Rattle.lfg_model.specs.Settings.{words_set, words_or_none, IsSetTo, IsDepth}
 use Rattle.lfg_model.specs.Templates.{Each, end, and}
-use Rattle.lfg_model.specs.Terms.{Name, Path, Paths, Annotation, same_name, annotation_of}
+use Rattle.lfg_model.specs.Terms.{Name, Path, same_name, annotation_of}
 use Rattle.lfg_model.specs.Thin.{Daughter, Phrase, Equation, Entry, Draft, empty_item, IsCategory, IsConsistent, link, item_of, rule_of_phrase, schema_of_equation, lex_of_entry, Gives}
 use Rattle.lfg_model.specs.Thin as thin
 use Rattle.lfg_model.specs.ThinDrafts.{root_setting, link_schema, IsItem, unannotated, linked, AreItems, IsRule, AreRules, equation_schema, entry_word, entry_words, IsThinForm}

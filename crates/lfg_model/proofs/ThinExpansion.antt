@@ -1,26 +1,19 @@
 -- A thin draft keeps the rules for templates, and becomes itself: it has no call.
 use Rattle.std.proofs.Common.{◌≡◌, ℕ, ◌+◌, ◌≤◌, Option, Some, None, List, [], ◌∷◌, ◌++◌, length, map, refl, sym, ap, ◌∙◌, subst, inl, inr, ◌⊎◌, append_assoc}
 use Rattle.std.specs.List.{flat_map}
-use Rattle.std.specs.Option.{option_map}
 use Rattle.lfg_terms.specs.declared.grammar.Arrow.TheVariants as arrow
-use Rattle.lfg_terms.specs.declared.grammar.Des.{Des}
-use Rattle.lfg_terms.specs.declared.grammar.Val.{Val}
 use Rattle.lfg_terms.specs.declared.grammar.Val.TheVariants as val
 use Rattle.lfg_model.specs.DraftForms.{TemplateForm, RuleForm, WordForm, DraftForm, PlainForm}
-use Rattle.lfg_model.specs.Lists.{In, here, later, Once, none, more}
-use Rattle.lfg_model.specs.PathExpressions.{PathExpression, PathExpressions, attribute, row, expressions_from, no_path, and_path}
-use Rattle.lfg_model.specs.PathNotation.{path_row}
-use Rattle.lfg_model.specs.RightSideNotation.{side_row}
-use Rattle.lfg_model.specs.RightSides.{DraftSchema, DraftAnnotation, define, no_schema, and_schema, draft_annotation_from, RightSide, RightSides, item, right_sides_from}
-use Rattle.lfg_model.specs.RightSides as side
-use Rattle.lfg_model.specs.SchemaNotation.{long_des}
-use Rattle.lfg_model.specs.Templates.{unbound, paths_with, Becomes, defining, AllBecome, nothing, one_more, SideBecomes, bare, annotated, in_row, SidesBecome, no_part, part_more, Each, end, and, RuleBecomes, ReadingBecomes, Expands}
-use Rattle.lfg_model.specs.TemplateRules.{NoneHas, Head, Headed, headed_from, headed, rule_head, template_head, reading_head, heads, HeadsBefore, Twice, Repeated, Call, calls, side_calls, sides_calls, CallAt, call_at, rule_calls, template_calls, reading_calls, draft_calls, IsUndefined, HasOtherArity, IsCyclic, weights, whole_size, schema_limit, IsExpanded}
+use Rattle.lfg_model.specs.Lists.{In, here, later, Once, more}
+use Rattle.lfg_model.specs.PathExpressions.{PathExpressions, attribute, row, expressions_from, and_path}
+use Rattle.lfg_model.specs.RightSides.{DraftSchema, define, no_schema, and_schema, draft_annotation_from, RightSide, right_sides_from}
+use Rattle.lfg_model.specs.Templates.{unbound, paths_with, Becomes, defining, AllBecome, nothing, one_more, SideBecomes, bare, annotated, in_row, SidesBecome, no_part, part_more, Each, end, and, RuleBecomes, ReadingBecomes}
+use Rattle.lfg_model.specs.TemplateRules.{NoneHas, Head, Headed, headed_from, headed, rule_head, template_head, reading_head, heads, HeadsBefore, Twice, Repeated, calls, side_calls, sides_calls, CallAt, call_at, rule_calls, template_calls, reading_calls, draft_calls, weights, whole_size, schema_limit, IsExpanded}
 use Rattle.lfg_model.specs.Terms.{Name}
 use Rattle.lfg_model.specs.Thin.{Daughter, Phrase, Equation, Entry, Draft, IsConsistent}
 use Rattle.lfg_model.specs.ThinDrafts.{link_schema, IsItem, unannotated, linked, AreItems, IsRule, AreRules, equation_schema, entry_word, entry_words, IsThinForm}
 use Rattle.lfg_model.specs.ThinDrafts as draft
-use Rattle.lfg_model.proofs.ListLaws.{In-append_cases, In-append_right, In-push_cases, In-map, In_from_map, In_from_flat_map}
+use Rattle.lfg_model.proofs.ListLaws.{In-append_cases, In-append_right, In-map, In_from_map}
 
 -- ---- it becomes itself
 

@@ -1,6 +1,5 @@
 -- The graph of a row of items walks the row alone, as the right side spells it alone.
-use Rattle.std.proofs.Common.{◌≡◌, ℕ, zero, suc, ◌+◌, ◌<◌, ◌≤◌, ◌↔◌, Bool, true, false, Some, None, List, [], ◌∷◌, ◌++◌, length, map, slice_get, refl, sym, ap, ◌∙◌, subst, arith, inl, inr, ◌⊎◌}
-use Rattle.std.specs.Ordering.{nat_cmp}
+use Rattle.std.proofs.Common.{◌≡◌, ℕ, zero, suc, ◌+◌, ◌≤◌, ◌↔◌, Some, List, [], ◌∷◌, ◌++◌, length, refl, sym, ap, ◌∙◌, subst, arith, inl, inr}
 use Rattle.std.specs.List.Sorted.{IsStrictlySortedBy}
 use Rattle.lfg_terms.specs.declared.grammar.Graph.{Graph}
 use Rattle.lfg_model.specs.Derive.{Walks}
@@ -9,13 +8,12 @@ use Rattle.lfg_model.specs.Lists.{In, here, later}
 use Rattle.lfg_model.specs.Loads.{items_of, all_items_of, HasGraph}
 use Rattle.lfg_model.specs.RightSideNotation.{side_row}
 use Rattle.lfg_model.specs.RightSides.{RightSide, right_sides_from}
-use Rattle.lfg_model.specs.Sequences.{Joins}
-use Rattle.lfg_model.specs.Spelling.{categories, categories_of, item_count, category_at, SpellsBehind, SpellsRow, Spells, AllowsEmpty, HasEmptyStar, SomeHasEmptyStar}
+use Rattle.lfg_model.specs.Spelling.{categories, categories_of, item_count, category_at, SpellsBehind, SpellsRow, Spells, AllowsEmpty, SomeHasEmptyStar}
 use Rattle.lfg_model.specs.Terms.{Name}
 use Rattle.lfg_model.specs.Thin.{Daughter, empty_item, next_from, last_of, row_graph}
 use Rattle.lfg_model.specs.ThinDrafts.{IsItem, unannotated, linked, AreItems as AreSides, none, next}
 use Rattle.lfg_model.specs.ThinTrees.{numbers}
-use Rattle.lfg_model.proofs.OneTree.{same_some, same_cons}
+use Rattle.lfg_model.proofs.OneTree.{same_some}
 use Rattle.lfg_model.proofs.ThinTreeLaws.{numbers_walk, walk_numbers}
 
 -- ---- the form of the graph

@@ -1,31 +1,28 @@
 -- The grammar of a thin file is loaded from it.
-use Rattle.std.proofs.Common.{◌≡◌, ◌≢◌, ℕ, zero, suc, ◌<◌, Option, Some, None, List, [], ◌∷◌, map, slice_get, codes, refl, sym, ap, ◌∙◌, subst, arith, inl, inr, ◌⊎◌}
-use Rattle.lfg_terms.specs.declared.draft.Setting.{Setting}
+use Rattle.std.proofs.Common.{◌≡◌, ◌≢◌, ℕ, suc, ◌<◌, Option, Some, None, List, [], ◌∷◌, map, slice_get, refl, sym, ap, ◌∙◌, subst, arith, inl, inr}
 use Rattle.lfg_terms.specs.declared.grammar.Item.{Item}
 use Rattle.lfg_terms.specs.declared.grammar.Rule.{Rule}
 use Rattle.lfg_terms.specs.declared.grammar.Lex.{Lex}
 use Rattle.lfg_terms.specs.declared.grammar.Grammar.{Grammar}
-use Rattle.lfg_model.specs.Derive.{rule_of, item_at}
-use Rattle.lfg_model.specs.DraftForms.{DraftForm}
+use Rattle.lfg_model.specs.Derive.{item_at}
 use Rattle.lfg_model.specs.Grounded.{HasOnlyCategory, Unary, Chain, link as step, links as steps}
-use Rattle.lfg_model.specs.Links.{Reaches, nothing, one_more, SchemaReaches, defining, IsLink, up_first, HasLink, CanBeUnlinked}
+use Rattle.lfg_model.specs.Links.{Reaches, nothing, one_more, defining, up_first, HasLink, CanBeUnlinked}
 use Rattle.lfg_model.specs.Lists.{In, here, later}
-use Rattle.lfg_model.specs.Loads.{HasWords, IsUnaryCycle, IsUnlinked, Loads}
-use Rattle.lfg_model.specs.Settings.{IsBadSetting, Placed, placed, AreSettings, SetsRoot}
+use Rattle.lfg_model.specs.Loads.{HasWords, IsUnaryCycle, IsUnlinked}
+use Rattle.lfg_model.specs.Settings.{IsBadSetting, placed, AreSettings}
 use Rattle.lfg_model.specs.Terms.{Name, annotation_of}
 use Rattle.lfg_model.specs.TemplateRules.{NoneHas}
-use Rattle.lfg_model.specs.Thin.{Daughter, Phrase, Entry, Draft, IsConsistent, link, item_of, rule_of_phrase, lex_of_entry, Gives, IsThinGrammar}
+use Rattle.lfg_model.specs.Thin.{Daughter, Phrase, Entry, link, item_of, rule_of_phrase, lex_of_entry, IsThinGrammar}
 use Rattle.lfg_model.specs.ThinDrafts.{root_setting}
-use Rattle.lfg_model.specs.ThinText.{ThinFile}
 use Rattle.lfg_model.specs.ThinLoads.{ThinFilesAreLoaded}
 use Rattle.lfg_model.proofs.ListLaws.{In-map, In_from_map}
 use Rattle.lfg_model.proofs.OneTree.{same_some}
 use Rattle.lfg_model.proofs.ThinAssembly.{thin_assembles}
 use Rattle.lfg_model.proofs.ThinDraftLaws.{thin_files_are_drafted}
 use Rattle.lfg_model.proofs.ThinExpansion.{plain_of, thin_expands}
-use Rattle.lfg_model.proofs.ThinLaws.{thin_file_is_thin}
+use Rattle.lfg_model.proofs.ThinLaws.{in_row}
 use Rattle.lfg_model.proofs.ThinSizes.{thin_few}
-use Rattle.lfg_model.proofs.ThinTreeLaws.{In-place_of, once_places, item_place, IsRuleOfPhrase, phrase_of, item_from}
+use Rattle.lfg_model.proofs.ThinTreeLaws.{In-place_of, once_places, item_place, phrase_of, item_from}
 
 -- ---- settings
 
@@ -86,9 +83,11 @@ module _ (g : Grammar) (thin : IsThinGrammar g) where
       let o = only_item u.0 u.2.0 below u.2.2 in
       let p = item_place (let r : Rule = u.0 in r.items) o.0 o.1 o.2 in
       let x = item_from g thin above u.0 q p.0 o.1 p.1 in
-      let named : Some (let y : Daughter = x.0 in y.cat) ≡ Some below = ap (λ (z : Item). z.cat) x.2 ∙ o.3 in
-      (k.0, record { phrase = q.phrase; at = k.1; is = q.category },
-        thin.consistent.later k.0 j q.phrase at.phrase x.0 k.1 (In-place_of (let z = q.phrase in z.daughters) x.1.0 x.0 x.1.1) at.at (at.is ∙ sym (same_some _ below named)))
+      let named : Some (let y : Daughter = x.0 in y.cat) ≡ Some below = ap (λ (z : Item). z.cat) x.2 ∙ o.3 in (
+        k.0,
+        record { phrase = q.phrase; at = k.1; is = q.category },
+        thin.consistent.later k.0 j q.phrase at.phrase x.0 k.1 (In-place_of (let z = q.phrase in z.daughters) p.0 x.0 x.1) at.at (at.is ∙ sym (same_some _ below named)),
+      )
 
   chain_later : {below above : Name} (j : ℕ) → Chain (Unary g) below above → IsPlace thin.draft.phrases below j → (k : ℕ) × IsPlace thin.draft.phrases above k × (k < j)
   chain_later j (step u) at = step_later _ _ j u at
@@ -116,7 +115,8 @@ module _ (g : Grammar) (thin : IsThinGrammar g) where
 pub thin_files_are_loaded : ThinFilesAreLoaded
 thin_files_are_loaded bytes g t =
     let h = thin_files_are_drafted bytes g t in
-    let thin = thin_file_is_thin bytes g t in
+    let filled : (p : Phrase) → In p (let d = t.draft in d.phrases) → p.daughters ≢ [] = λ p i. in_row t.says.phrases.row i in
+    let thin : IsThinGrammar g = record { draft = t.draft; consistent = t.consistent; filled = filled; gives = t.gives } in
     record {
       assembled = record {
         plain = plain_of h.form;
@@ -125,7 +125,7 @@ thin_files_are_loaded bytes g t =
           configured = record { drafts = h.drafts; settings = subst AreSettings (sym (let i = h.is in i.settings)) (root_good (let d = t.draft in d.root)) };
           expanded = thin_expands t.draft h.form h.is t.consistent (thin_few bytes g t h.form h.is);
         };
-        assembles = thin_assembles t.draft h.form g h.is t.consistent thin.filled t.gives;
+        assembles = thin_assembles t.draft h.form g h.is t.consistent filled t.gives;
       };
       apart = no_words g thin;
       acyclic = no_cycle g thin;
