@@ -69,3 +69,8 @@ pub mod ChartLaws
 pub mod OnePick
 pub mod SomePick
 pub mod ReachedLaws
+pub mod ThinExpansion
+pub mod ThinGraphs
+pub mod ThinSizes
+pub mod ThinAssembly
+pub mod ThinLoadLaws
