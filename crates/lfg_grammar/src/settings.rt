@@ -32,8 +32,13 @@ fn number_to(greatest: u32, words: &[Name]) -> Option<u32>
     let [word] = words else {
         return None;
     };
-    let number = number_of(word)?;
-    if number == 0 || number > greatest {
+    let Some(number) = number_of(word) else {
+        return None;
+    };
+    if number == 0 {
+        return None;
+    }
+    if number > greatest {
         return None;
     }
     Some(number)
@@ -62,4 +67,42 @@ fn is_out_of_range(setting: &Setting) -> bool
         Some(greatest) => number_to(greatest, setting.words.list()).is_none(),
         None => false,
     }
+}
+
+/// Whether the key is that of one of these settings.
+fn came_before(earlier: &[Setting], key: &Name) -> bool
+    ensures { IsTrue result ↔ In key.now (map (λ s. s.key) earlier.now) }
+{
+    for setting in earlier {
+        if setting.key == *key {
+            return true;
+        }
+    }
+    false
+}
+
+/// The number of the first entry whose key came before, or whose number is out of range.
+pub(crate) fn first_bad(settings: &[Setting]) -> Option<u32>
+    ensures { MatchOption result (NoneHas IsBadSetting (placed settings.now))
+        (λ entry. (p : Placed) × First IsBadSetting (placed settings.now) p × (p.setting.entry ≡ entry)) }
+{
+    for i in 0..settings.len() {
+        let setting = &settings[i];
+        if is_out_of_range(setting) || came_before(&settings[..i], &setting.key) {
+            return Some(setting.entry);
+        }
+    }
+    None
+}
+
+/// The words that the key is set to, if it is set.
+fn words_set<'a>(settings: &'a [Setting], key: &str) -> Option<&'a [Name]>
+    ensures { MatchOption result (words_set key.now settings.now ≡ None) (λ words. words_set key.now settings.now ≡ Some words.now) }
+{
+    for setting in settings {
+        if setting.key.text() == key {
+            return Some(setting.words.list());
+        }
+    }
+    None
 }
