@@ -27,7 +27,7 @@ use Rattle.lfg_model.proofs.ThinTreeLaws.{In-place_of, once_places, item_place, 
 -- ---- settings
 
 root_good : (root : Name) → AreSettings (root_setting root ∷ [])
-root_good root = record { good = good; rooted = here }
+root_good root = record { good = good; rooted = (root, refl) }
   where
     good : NoneHas IsBadSetting (placed (root_setting root ∷ []))
     good p here (inl i) = elim i [ ]
