@@ -50,19 +50,19 @@ module _ {X : Type 0} (R : X → X → Type 0) where
   no_cycle a c = no_self (acc_chain a) c
 
 -- by a number first, and then by what comes to an end
-abbrev pub Lex : {X Y : Type 0} → (X → ℕ) → (X → Y) → (Y → Y → Type 0) → X → X → Type 0
-Lex f g R y x = (f y < f x) ⊎ ((f y ≡ f x) × R (g y) (g x))
+abbrev pub NumberFirst : {X Y : Type 0} → (X → ℕ) → (X → Y) → (Y → Y → Type 0) → X → X → Type 0
+NumberFirst f g R y x = (f y < f x) ⊎ ((f y ≡ f x) × R (g y) (g x))
 
 module _ {X Y : Type 0} (f : X → ℕ) (g : X → Y) (R : Y → Y → Type 0) (ends : (y : Y) → Acc R y) where
-  inner : (n : ℕ) → ((x : X) → f x < n → Acc (Lex f g R) x) → {y : Y} → Acc R y → (x : X) → f x ≡ n → g x ≡ y → Acc (Lex f g R) x
+  inner : (n : ℕ) → ((x : X) → f x < n → Acc (NumberFirst f g R) x) → {y : Y} → Acc R y → (x : X) → f x ≡ n → g x ≡ y → Acc (NumberFirst f g R) x
   inner n low {y} (acc h) x ex ey = acc (λ z l. elim l [
     | inl less ↦ (let k : f z < f x = less in low z (omega (arith, k, ex)))
     | inr both ↦ inner n low (h (g z) (let P : Y → Type 0 = λ w. R (g z) w in subst P ey both.1)) z (both.0 ∙ ex) refl
   ])
 
-  outer : (n : ℕ) (x : X) → f x < n → Acc (Lex f g R) x
+  outer : (n : ℕ) (x : X) → f x < n → Acc (NumberFirst f g R) x
   outer zero x l = absurd (omega arith)
   outer (suc n) x l = inner (f x) (λ z k. outer n z (omega arith)) (ends (g x)) x refl refl
 
-  pub lex_acc : (x : X) → Acc (Lex f g R) x
+  pub lex_acc : (x : X) → Acc (NumberFirst f g R) x
   lex_acc x = outer (suc (f x)) x (omega arith)

@@ -1,23 +1,27 @@
--- A sentence has one chart at most, and a chart has all ways to go on.
-use Rattle.std.proofs.Common.{◌≡◌, Bool, true, false, cond, List, [], ◌∷◌, refl, sym, ◌∙◌, ap, subst, ◌⊎◌, inl, inr}
+-- A sentence has one chart at most, and a chart has all ways to go on. What is kept makes a chart.
+use Rattle.std.proofs.Common.{◌≡◌, ◌↔◌, Bool, true, false, cond, List, [], ◌∷◌, refl, sym, ◌∙◌, ap, subst, ◌⊎◌, inl, inr}
+use Rattle.std.specs.declared.cmp.Ordering.{Ordering}
 use Rattle.std.specs.Ordering.{eq_by_cmp}
 use Rattle.std.specs.List.Sorted.{IsStrictlySortedBy}
 use Rattle.std.proofs.lemmas.Cmp.{eq_by_cmp_equiv}
 use Rattle.std.proofs.lemmas.Bool.{false≢true}
 use Rattle.lfg_terms.specs.Order.{edge_cmp}
 use Rattle.lfg_terms.specs.OrderLaws.{edge_cmp_total}
+use Rattle.lfg_terms.specs.declared.node.Edge.{Edge}
 use Rattle.lfg_terms.specs.declared.grammar.Grammar.{Grammar}
 use Rattle.lfg_terms.specs.declared.tree.TokenForms.{TokenForms}
 use Rattle.lfg_model.specs.declared.point.Point.{Point}
 use Rattle.lfg_model.specs.declared.point.Next.{Next}
 use Rattle.lfg_model.specs.Lists.{In, here, later, Lists}
 use Rattle.lfg_model.specs.Points.{point_cmp, next_cmp, point_cmp_total, next_cmp_total}
-use Rattle.lfg_model.specs.Spots.{AnEdge, AStep, Stands}
-use Rattle.lfg_model.specs.Charts.{Fork, points_of, nexts_at, IsPoint, OneChart, ChartHasAllNexts}
+use Rattle.lfg_model.specs.Spots.{Spot, AnEdge, AStep, AWord, APick, Stands}
+use Rattle.lfg_model.specs.Kept.{Kept, KeptSpot, an_edge, a_word, a_step, an_end, item_pick, entry_pick, IsFillable}
+use Rattle.lfg_model.specs.Charts.{Fork, points_of, nexts_at, IsPoint, IsChart, OneChart, ChartHasAllNexts}
 use Rattle.lfg_model.proofs.Ascending.{one_list, once_from_total, tied}
 use Rattle.lfg_model.proofs.ListLaws.{In-nil, In-cons_cases}
 use Rattle.lfg_model.proofs.OneTree.{same_cons, nil≢cons}
 use Rattle.lfg_model.proofs.PointTies.{point_ties}
+use Rattle.lfg_model.proofs.Standing.{kept_is_standing}
 
 module _ (g : Grammar) (s : List TokenForms) where
   -- the ways to go on at the fork's point are those of the fork
@@ -87,3 +91,36 @@ one_chart g s es es' fs fs' a b = (
 
 pub chart_has_all_nexts : ChartHasAllNexts
 chart_has_all_nexts g s es fs c p = all_nexts g s fs p (λ q h. (c.all_points.exact q).1 h) c.all_nexts
+
+-- ---- what is kept makes a chart
+
+-- a set is one of all that is told the same way
+pub Lists-same : {X : Type 0} {cmp : X → X → Ordering} {P Q : X → Type 0} {xs : List X} → ((x : X) → P x ↔ Q x) → Lists cmp P xs → Lists cmp Q xs
+Lists-same same l = record { ascends = l.ascends; exact = λ x. (λ i. (same x).0 ((l.exact x).0 i), λ q. (l.exact x).1 ((same x).1 q)) }
+
+-- the edge of a kept spot is kept
+abbrev pub KeptEdge : Grammar → List TokenForms → Spot → Type 0
+KeptEdge g s (AnEdge e) = Kept g s e
+KeptEdge g s (AStep p n) = Kept g s p.edge
+KeptEdge g s (AWord e k) = Kept g s e
+KeptEdge g s (APick at picks) = Unit {0}
+
+pub kept_edge_of : (g : Grammar) (s : List TokenForms) (x : Spot) → KeptSpot g s x → KeptEdge g s x
+kept_edge_of g s x (an_edge k) = k
+kept_edge_of g s x (a_word k w) = k
+kept_edge_of g s x (a_step rule p k is reach follow crosses ends) = k
+kept_edge_of g s x (an_end rule k is reach end) = k
+kept_edge_of g s x (item_pick rule p item k is reach follow crosses ends listed fits) = tt
+kept_edge_of g s x (entry_pick lex k w listed fits) = tt
+
+module _ (g : Grammar) (s : List TokenForms) (fill : IsFillable g) where
+  pub kept_edge_stands : (e : Edge) → Kept g s e ↔ Stands g s (AnEdge e)
+  kept_edge_stands e = let k = kept_is_standing g s fill (AnEdge e) in (λ h. k.0 (an_edge h), λ st. kept_edge_of g s (AnEdge e) (k.1 st))
+
+  pub chart_of_kept : (es : List Edge) (fs : List Fork) → Lists edge_cmp (Kept g s) es → Lists point_cmp (λ p. (n : Next) × KeptSpot g s (AStep p n)) (points_of fs)
+      → ((f : Fork) → In f fs → Lists next_cmp (λ n. KeptSpot g s (AStep f.0 n)) f.1) → IsChart g s es fs
+  chart_of_kept es fs a b c = record {
+    all_edges = Lists-same kept_edge_stands a;
+    all_points = Lists-same (λ p. (λ k. (k.0, (kept_is_standing g s fill (AStep p k.0)).0 k.1), λ st. (st.0, (kept_is_standing g s fill (AStep p st.0)).1 st.1))) b;
+    all_nexts = λ f i. Lists-same (λ n. kept_is_standing g s fill (AStep f.0 n)) (c f i);
+  }

@@ -11,7 +11,7 @@ use Rattle.lfg_model.specs.Terms.{Name, same_name, Tree, leaf, inner, Parts, no_
 use Rattle.lfg_model.specs.Derive.{rule_of, CanFollow, Runs, occurrences, edge, Derives, Covers}
 use Rattle.lfg_model.specs.Grounded.{IsEmptyItem, IsItemOf, AreEmptyItems, HasOnlyCategory, Unary, IsGrounded}
 use Rattle.lfg_model.specs.Kept.{Derivable, Crosses, by_none, by_edge, Reaches, at_start, go_on, Ends, at_end, before}
-use Rattle.lfg_model.proofs.Acyclic.{Acc, acc_of, Lex, lex_acc}
+use Rattle.lfg_model.proofs.Acyclic.{Acc, acc_of, NumberFirst, lex_acc}
 use Rattle.lfg_model.proofs.ListLaws.{In-map}
 use Rattle.lfg_model.proofs.ManWalksTree.{In_from_find}
 use Rattle.lfg_model.proofs.Spans.{empty_item}
@@ -104,7 +104,7 @@ module _ (g : Grammar) (s : List TokenForms) (ground : IsGrounded g) where
 
   -- narrower, or as wide and the only category of a walk
   abbrev pub Smaller : Edge → Edge → Type 0
-  Smaller = Lex wide (λ e. e.cat) (Unary g)
+  Smaller = NumberFirst wide (λ e. e.cat) (Unary g)
 
   pub edges_end : (e : Edge) → Acc Smaller e
   edges_end = lex_acc wide (λ e. e.cat) (Unary g) (acc_of (Unary g) (map (λ r. r.cat) g.rules) (λ d c u. has_rule g c u.0 u.1) ground.unary)

@@ -35,6 +35,7 @@ pub mod RightSideNotationLaws
 pub mod RightSideViews
 pub mod RoundLaws
 pub mod SchemaCases
+pub mod SchemaViews
 pub mod SchemaNotationLaws
 pub mod Settling
 pub mod SolutionLaws
@@ -48,6 +49,13 @@ pub mod ThinTreeLaws
 pub mod TreeOrder
 pub mod Within
 pub mod ThinLaws
+pub mod FirstLaws
+pub mod ExpansionLaws
+pub mod SettingLaws
+pub mod AssemblyLaws
+pub mod LikeGrammars
+pub mod LoadedPaths
+pub mod LoadLaws
 pub mod Acyclic
 pub mod EdgesOnce
 pub mod Grounding
@@ -58,3 +66,11 @@ pub mod FillableLaws
 pub mod Standing
 pub mod RowLaws
 pub mod ChartLaws
+pub mod OnePick
+pub mod SomePick
+pub mod ReachedLaws
+pub mod ThinExpansion
+pub mod ThinGraphs
+pub mod ThinSizes
+pub mod ThinAssembly
+pub mod ThinLoadLaws

@@ -1,18 +1,14 @@
 -- A command over files has one output.
 use Rattle.std.proofs.Common.{◌≡◌, ℕ, suc, ◌<◌, ◌≤◌, List, [], ◌∷◌, Option, Some, None, refl, sym, ap, subst, ◌∙◌, arith, length}
-use Rattle.std.specs.Prelude.{Result, Ok, Err}
 use Rattle.std.specs.List.{flat_map}
 use Rattle.lfg_terms.specs.declared.grammar.Grammar.{Grammar}
 use Rattle.lfg_model.specs.declared.status.GrammarFault.{GrammarFault}
 use Rattle.lfg_model.specs.declared.status.Status.{Status}
 use Rattle.lfg_model.specs.declared.status.Status.TheVariants.{Done, BadGrammar}
-use Rattle.lfg_model.specs.declared.token.Token.{Token}
-use Rattle.lfg_model.specs.DraftForms.{DraftForm}
-use Rattle.lfg_model.specs.Drafts.{Drafts, FileFault, not_utf8, no_token, no_lexemes, LexemesFault, HasFault, said, lexemes_of}
 use Rattle.lfg_model.specs.PairTexts.{pair_text}
 use Rattle.lfg_model.specs.ThinText.{ThinFile, ThinSentences}
-use Rattle.lfg_model.specs.Output.{Command, readings, section, AreSections, none, more, AreReadings, file_limit, fault_of, IsFaultOf, at_fault, not_thin, IsOutput, usage, no_grammar, long_grammar, bad_grammar, no_sentences, long_sentences, bad_sentences, all_read, sentences_of, AreAccepted, both_thin, IfBadGrammar, IfTooLong, OneOutput}
-use Rattle.lfg_model.proofs.OneReading.{one_row, not_both, one_place}
+use Rattle.lfg_model.specs.Output.{Command, readings, section, AreSections, none, more, AreReadings, file_limit, IsFaultOf, at_fault, not_thin, IsOutput, usage, no_grammar, long_grammar, bad_grammar, no_sentences, long_sentences, bad_sentences, all_read, sentences_of, AreAccepted, both_thin, IfBadGrammar, IfTooLong, OneOutput}
+use Rattle.lfg_model.proofs.LoadLaws.{one_load_fault, loaded_has_no_fault}
 use Rattle.lfg_model.proofs.OneTree.{same_some}
 use Rattle.lfg_model.proofs.ReadingLaws.{readings_are_one}
 use Rattle.lfg_model.proofs.ThinLaws.{one_thin_grammar}
@@ -38,41 +34,13 @@ AreSections-one g n (l ∷ ls) (s ∷ ss) (u ∷ us) (more {body = a} h p) (more
 some_none : {X : Type 0} {o : Option X} {x : X} → o ≡ None → o ≡ Some x → ⊥
 some_none e f = cc
 
--- ---- why a file is no grammar file
+-- ---- why a file is not accepted
 
-same_err : (A E : Type 0) (r s : Result A E) (x y : E) → r ≡ s → r ≡ Err x → s ≡ Err y → x ≡ y
-same_err A E r s x y p q k = cc
-
-ok_not_err : (A E : Type 0) (r s : Result A E) (x : A) (y : E) → r ≡ s → r ≡ Ok x → s ≡ Err y → ⊥
-ok_not_err A E r s x y p q k = cc
-
--- a file has one fault
-one_file_fault : (bytes : List ℕ) (e f : FileFault) → HasFault bytes e → HasFault bytes f → e ≡ f
-one_file_fault bytes (not_utf8 a) (not_utf8 b) h k = ap not_utf8 (h.1 ∙ sym k.1)
-one_file_fault bytes (not_utf8 a) (no_token b) h k = absurd (h.0 k.0)
-one_file_fault bytes (not_utf8 a) (no_lexemes f) h k = absurd (h.0 k.has.utf8)
-one_file_fault bytes (no_token a) (not_utf8 b) h k = absurd (k.0 h.0)
-one_file_fault bytes (no_token a) (no_token b) h k = ap no_token (one_place h.1 k.1)
-one_file_fault bytes (no_token a) (no_lexemes f) h k = absurd (not_both k.has.read h.1)
-one_file_fault bytes (no_lexemes e) (not_utf8 b) h k = absurd (k.0 h.has.utf8)
-one_file_fault bytes (no_lexemes e) (no_token b) h k = absurd (not_both h.has.read k.1)
-one_file_fault bytes (no_lexemes e) (no_lexemes f) h k =
-    let same : h.tokens ≡ k.tokens = one_row h.has.read k.has.read in
-    ap no_lexemes (same_err DraftForm LexemesFault _ _ e f (ap (λ (ts : List Token). said (lexemes_of ts)) same) h.says k.says)
-
--- and none where it is a grammar file
-pub no_fault : (bytes : List ℕ) (d : DraftForm) (e : FileFault) → Drafts bytes d → HasFault bytes e → ⊥
-no_fault bytes d (not_utf8 a) h k = k.0 h.has.utf8
-no_fault bytes d (no_token a) h k = not_both h.has.read k.1
-no_fault bytes d (no_lexemes e) h k =
-    let same : h.tokens ≡ k.tokens = one_row h.has.read k.has.read in
-    ok_not_err DraftForm LexemesFault _ _ d e (ap (λ (ts : List Token). said (lexemes_of ts)) same) h.says k.says
-
-one_fault : (bytes : List ℕ) (e f : GrammarFault) → IsFaultOf bytes e → IsFaultOf bytes f → e ≡ f
-one_fault bytes e f (at_fault a h p) (at_fault b k q) = p ∙ ap fault_of (one_file_fault bytes a b h k) ∙ sym q
-one_fault bytes e f (at_fault a h p) (not_thin d q) = absurd (no_fault bytes _ a d h)
-one_fault bytes e f (not_thin d p) (at_fault b k q) = absurd (no_fault bytes _ b d k)
-one_fault bytes e f (not_thin d p) (not_thin c q) = p ∙ sym q
+pub one_fault_of : (bytes : List ℕ) (e f : GrammarFault) → IsFaultOf bytes e → IsFaultOf bytes f → e ≡ f
+one_fault_of bytes e f (at_fault x) (at_fault y) = one_load_fault bytes e f x y
+one_fault_of bytes e f (at_fault x) (not_thin {grammar} l q) = absurd (loaded_has_no_fault bytes grammar e l x)
+one_fault_of bytes e f (not_thin {grammar} l p) (at_fault y) = absurd (loaded_has_no_fault bytes grammar f l y)
+one_fault_of bytes e f (not_thin l p) (not_thin m q) = p ∙ sym q
 
 -- ---- one output
 
@@ -101,7 +69,7 @@ module _ (files : List ℕ → Option (List ℕ)) where
   text_short bytes t = let h = t.short in omega (arith, h)
 
   same_fault : (name a b : List ℕ) (e f : GrammarFault) → files name ≡ Some a → IsFaultOf a e → files name ≡ Some b → IsFaultOf b f → e ≡ f
-  same_fault name a b e f p h q k = one_fault a e f h (subst (λ (bs : List ℕ). IsFaultOf bs f) (same_bytes name b a q p) k)
+  same_fault name a b e f p h q k = one_fault_of a e f h (subst (λ (bs : List ℕ). IsFaultOf bs f) (same_bytes name b a q p) k)
 
   same_sections : (g h : Grammar) (a b : List ℕ) (ss us : List (List ℕ)) → g ≡ h → a ≡ b → AreSections (AreReadings g) 1 (sentences_of a) ss
       → AreSections (AreReadings h) 1 (sentences_of b) us → ss ≡ us

@@ -1,5 +1,5 @@
--- What the rows of a table mean.
-use Rattle.std.proofs.Common.{◌≡◌, ℕ, List, ap, refl, sym, ◌∙◌, subst, Some}
+-- What the rows of a table mean, and that they run from left to right.
+use Rattle.std.proofs.Common.{◌≡◌, ℕ, ◌≤◌, List, ap, arith, refl, sym, ◌∙◌, subst, Some}
 use Rattle.lfg_terms.specs.declared.node.Edge.{Edge}
 use Rattle.lfg_terms.specs.declared.grammar.Rule.{Rule}
 use Rattle.lfg_terms.specs.declared.grammar.Grammar.{Grammar}
@@ -74,3 +74,14 @@ module _ (g : Grammar) (s : List TokenForms) (fill : IsFillable g) where
 
 pub rows_mean : RowsMean
 rows_mean g s fill label i j = (means g s fill, row_of g s fill label i j)
+
+-- nothing in a row ends before its start
+pub row_spans : (g : Grammar) (s : List TokenForms) {label : Label} {i j : ℕ} → ChartRow g s label i j → i ≤ j
+row_spans g s (word k w) = let to = w.one_token in omega (arith, to)
+row_spans g s (read_all rule is end row) = row_spans g s row
+row_spans g s (read_none rule is) = omega arith
+row_spans g s (read_empty rule is follow item row) = row_spans g s row
+row_spans g s (read_daughter rule is follow item row below) = let a = row_spans g s row in let b = row_spans g s below in omega (arith, a, b)
+row_spans g s (left_none rule is end) = omega arith
+row_spans g s (left_empty rule is follow item row) = row_spans g s row
+row_spans g s (left_daughter rule is follow item below row) = let a = row_spans g s below in let b = row_spans g s row in omega (arith, a, b)

@@ -37,10 +37,17 @@ pub mod Trees
 pub mod Unambiguous
 pub mod Templates
 pub mod TemplateRules
+pub mod Firsts
 pub mod Grounded
+pub mod Links
+pub mod Loaded
+pub mod Loads
+pub mod Settings
 pub mod Kept
 pub mod Points
 pub mod Spots
 pub mod Fillable
 pub mod ChartRows
 pub mod Charts
+pub mod Picked
+pub mod ThinLoads

@@ -6,14 +6,13 @@ use Rattle.lfg_terms.specs.declared.grammar.Grammar.{Grammar}
 use Rattle.lfg_model.specs.declared.pair.Pair.{Pair}
 use Rattle.std.specs.Cmp.Lexicographic.{pointwise}
 use Rattle.lfg_model.specs.declared.status.GrammarFault.{GrammarFault}
-use Rattle.lfg_model.specs.declared.status.GrammarFault.TheVariants.{NotUtf8, NoToken, Section, Entry}
+use Rattle.lfg_model.specs.declared.status.GrammarFault.TheVariants as fault
+use Rattle.lfg_model.specs.declared.status.GrammarFault.TheVariants.{Entry}
 use Rattle.lfg_model.specs.declared.status.Status.{Status}
 use Rattle.lfg_model.specs.declared.status.Status.TheVariants.{Done, Usage, ReadFault, FileTooLong, BadGrammar, WriteFault, Memory}
 use Rattle.lfg_model.specs.Lists.{In}
 use Rattle.lfg_model.specs.PairTexts.{pair_text}
-use Rattle.lfg_model.specs.DraftForms.{DraftForm}
-use Rattle.lfg_model.specs.Drafts as drafts
-use Rattle.lfg_model.specs.Drafts.{Drafts, FileFault, HasFault}
+use Rattle.lfg_model.specs.Loads.{LoadFault, Loads}
 use Rattle.lfg_model.specs.Readings.{IsReadings}
 use Rattle.lfg_model.specs.ThinText.{ThinFile, ThinSentences, words, token_of}
 
@@ -29,21 +28,49 @@ exit_status Memory = 12
 
 -- the name of a fault
 abbrev pub fault_name : GrammarFault → List ℕ
-fault_name (NotUtf8 at) = codes "NotUtf8"
-fault_name (NoToken at) = codes "NoToken"
-fault_name (Section number) = codes "Section"
-fault_name (Entry number) = codes "Entry"
+fault_name (fault.NotUtf8 at) = codes "NotUtf8"
+fault_name (fault.NoToken at) = codes "NoToken"
+fault_name (fault.Section number) = codes "Section"
+fault_name (fault.Entry number) = codes "Entry"
+fault_name (fault.Config entry) = codes "Config"
+fault_name (fault.Repeated name) = codes "Repeated"
+fault_name (fault.Undefined name) = codes "Undefined"
+fault_name (fault.Arity name) = codes "Arity"
+fault_name (fault.TemplateCycle name) = codes "TemplateCycle"
+fault_name (fault.TooMuch entry) = codes "TooMuch"
+fault_name (fault.TooManyPaths entry) = codes "TooManyPaths"
+fault_name (fault.NoPath entry) = codes "NoPath"
+fault_name (fault.EmptyStar category) = codes "EmptyStar"
+fault_name (fault.EmptyRule category) = codes "EmptyRule"
+fault_name (fault.Both category) = codes "Both"
+fault_name (fault.UnaryCycle category) = codes "UnaryCycle"
+fault_name (fault.Unlinked category) = codes "Unlinked"
+fault_name fault.Memory = codes "Memory"
 
--- the place or the number that a fault has
-abbrev pub fault_number : GrammarFault → ℕ
-fault_number (NotUtf8 at) = at
-fault_number (NoToken at) = at
-fault_number (Section number) = number
-fault_number (Entry number) = number
+-- the place, the number or the name that a fault has; want of memory has none
+abbrev pub fault_value : GrammarFault → List ℕ
+fault_value (fault.NotUtf8 at) = decimal at
+fault_value (fault.NoToken at) = decimal at
+fault_value (fault.Section number) = decimal number
+fault_value (fault.Entry number) = decimal number
+fault_value (fault.Config entry) = decimal entry
+fault_value (fault.Repeated name) = name
+fault_value (fault.Undefined name) = name
+fault_value (fault.Arity name) = name
+fault_value (fault.TemplateCycle name) = name
+fault_value (fault.TooMuch entry) = decimal entry
+fault_value (fault.TooManyPaths entry) = decimal entry
+fault_value (fault.NoPath entry) = decimal entry
+fault_value (fault.EmptyStar category) = category
+fault_value (fault.EmptyRule category) = category
+fault_value (fault.Both category) = category
+fault_value (fault.UnaryCycle category) = category
+fault_value (fault.Unlinked category) = category
+fault_value fault.Memory = []
 
--- a fault by its name and its number
+-- a fault by its name, and its number or name
 abbrev pub fault_text : GrammarFault → List ℕ
-fault_text fault = fault_name fault ++ 32 ∷ decimal (fault_number fault)
+fault_text fault = fault_name fault ++ 32 ∷ fault_value fault
 
 -- what stands behind `xle: ` in the line for a status
 abbrev pub fault_message : Status → List ℕ
@@ -122,18 +149,11 @@ pub record AreReadings (g : Grammar) (line body : List ℕ) : Type 0 where
 abbrev pub file_limit : ℕ
 file_limit = 4194304
 
--- what is at fault with a grammar file, as a status tells it
-abbrev pub fault_of : FileFault → GrammarFault
-fault_of (drafts.not_utf8 at) = NotUtf8 at
-fault_of (drafts.no_token at) = NoToken at
-fault_of (drafts.no_lexemes (drafts.bad_section number)) = Section number
-fault_of (drafts.no_lexemes (drafts.bad_entry number)) = Entry number
-
--- Why a grammar file is not accepted: what is at fault with it; or, with the number 0, that it is a
--- grammar file and not thin.
+-- Why a grammar file is not accepted: the fault for which it is not loaded; or, with the number 0,
+-- that it is loaded and not thin.
 pub data IsFaultOf (bytes : List ℕ) (fault : GrammarFault) : Type 0 where
-  at_fault : (why : FileFault) → HasFault bytes why → fault ≡ fault_of why → IsFaultOf bytes fault
-  not_thin : {draft : DraftForm} → Drafts bytes draft → fault ≡ Entry 0 → IsFaultOf bytes fault
+  at_fault : LoadFault bytes fault → IsFaultOf bytes fault
+  not_thin : {grammar : Grammar} → Loads bytes grammar → fault ≡ Entry 0 → IsFaultOf bytes fault
 
 -- The files of the command are there and accepted.
 pub data AreAccepted (files : List ℕ → Option (List ℕ)) : Option Command → Type 0 where

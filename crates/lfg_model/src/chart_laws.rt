@@ -6,6 +6,7 @@ ghost use Rattle.lfg_model.specs.ChartRows.{RowsMean};
 ghost use Rattle.lfg_model.specs.Fillable.{FillableWithoutEmptyDisjunctions};
 ghost use Rattle.lfg_model.specs.Grounded.{EdgesCoverTokens, NoEdgeTwice};
 ghost use Rattle.lfg_model.specs.Kept.{KeptIsStanding};
+ghost use Rattle.lfg_model.specs.Picked.{OneIsPicked, PickedIsReached, SomeIsPicked};
 
 /// In a grounded grammar no derivation has an edge twice, and each edge of one covers a token.
 pub fn no_edge_twice()
@@ -35,4 +36,20 @@ pub fn rows_mean()
 pub fn one_chart()
     ensures one { OneChart }
     ensures all { ChartHasAllNexts }
+{}
+
+/// A selection picks one derivation at most.
+pub fn one_is_picked()
+    ensures { OneIsPicked }
+{}
+
+/// Where there is a whole derivation, each selection picks one.
+pub fn some_is_picked()
+    ensures { SomeIsPicked }
+{}
+
+/// The picked derivation has just the edges, steps, entries and picks that the selection reaches
+/// from the root.
+pub fn picked_is_reached()
+    ensures { PickedIsReached }
 {}

@@ -4,12 +4,14 @@
 ghost use Rattle.lfg_model.specs.Brackets.{TreeTextIsBracketed};
 ghost use Rattle.lfg_model.specs.Examples.{NegatedWherePlainFails, SetsWithoutPredAreExempt, TargetsOfEqualNodesAreEqual};
 ghost use Rattle.lfg_model.specs.Lists.{SetsOfFactsAreOne};
+ghost use Rattle.lfg_model.specs.Loads.{LoadedHasNoFault, OneLoadFault, OneLoadedGrammar};
 ghost use Rattle.lfg_model.specs.ManWalks.{TheManWalks};
 ghost use Rattle.lfg_model.specs.Output.{OneOutput};
 ghost use Rattle.lfg_model.specs.Readings.{ClassesHaveOneName, ReadingsAreOne};
 ghost use Rattle.lfg_model.specs.Rounds.{GrowingRoundsSettle, RoundsGiveEqual};
 ghost use Rattle.lfg_model.specs.Solve.{RoundsGiveSolution};
 ghost use Rattle.lfg_model.specs.ThinDrafts.{ThinFilesAreDrafted};
+ghost use Rattle.lfg_model.specs.ThinLoads.{ThinFilesAreLoaded};
 ghost use Rattle.lfg_model.specs.ThinTrees.{OneThinDerivation, ThinLeavesNoChoice};
 ghost use Rattle.lfg_model.specs.Unambiguous.{OneDerivation};
 ghost use Rattle.lfg_model.specs.ThinText.{OneThinGrammar, ThinFilesAreThin};
@@ -100,6 +102,23 @@ pub fn thin_files_have_one_grammar()
 /// the thin file gives its grammar from.
 pub fn thin_files_are_drafted()
     ensures { ThinFilesAreDrafted }
+{}
+
+/// The grammar that a thin file gives is loaded from it.
+pub fn thin_files_are_loaded()
+    ensures { ThinFilesAreLoaded }
+{}
+
+/// A grammar file is not loaded for one reason at most, and for none where a grammar is loaded from it.
+pub fn a_file_has_one_load_fault()
+    ensures one { OneLoadFault }
+    ensures none { LoadedHasNoFault }
+{}
+
+/// Two grammars that are loaded from one file are the same as plain data, with graphs that walk the
+/// same rows.
+pub fn a_file_has_one_loaded_grammar()
+    ensures { OneLoadedGrammar }
 {}
 
 /// A command over files has one output: one list of sections and one status.
