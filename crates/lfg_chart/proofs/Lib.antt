@@ -3,6 +3,7 @@ pub mod CellLaws
 pub mod FillLaws
 pub mod LinkLaws
 pub mod RuleLaws
+pub mod Meaning
 pub mod PartLaws
 pub mod PlaceLaws
 pub mod Searching
