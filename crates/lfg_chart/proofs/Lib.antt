@@ -1,5 +1,6 @@
 pub mod AgendaLaws
 pub mod CellLaws
+pub mod CollectLaws
 pub mod FillLaws
 pub mod LinkLaws
 pub mod RuleLaws

@@ -2,7 +2,9 @@ pub mod Agenda
 pub mod Cells
 pub mod Filling
 pub mod Meaning
+pub mod Nexts
 pub mod Numbers
 pub mod Places
+pub mod Points
 pub mod Tables
 pub mod Words

@@ -4,7 +4,9 @@
 mod fill;
 mod kept;
 mod links;
+mod nexts;
 mod places;
+mod points;
 mod rules;
 mod table;
 mod words;
