@@ -2,6 +2,7 @@ pub mod AgendaLaws
 pub mod CellLaws
 pub mod CollectLaws
 pub mod FillLaws
+pub mod KeptLaws
 pub mod LinkLaws
 pub mod RuleLaws
 pub mod Meaning
