@@ -1,10 +1,14 @@
 pub mod AgendaLaws
+pub mod BuiltLaws
 pub mod CellLaws
 pub mod CollectLaws
 pub mod FillLaws
+pub mod ForkLaws
 pub mod KeptLaws
 pub mod LinkLaws
+pub mod ReadyLaws
 pub mod RuleLaws
+pub mod LoadedLaws
 pub mod Meaning
 pub mod PartLaws
 pub mod PlaceLaws

@@ -9,8 +9,9 @@ use Rattle.lfg_chart.specs.declared.table.Row.{Row}
 use Rattle.lfg_chart.specs.declared.table.Row.TheVariants.{Whole, Read, Left}
 use Rattle.lfg_chart.specs.declared.table.Table.{Table}
 use Rattle.lfg_chart.specs.Places.{Has}
-use Rattle.lfg_chart.specs.Cells.{HasIn, HasAt, IsCell, Grown}
+use Rattle.lfg_chart.specs.Cells.{HasIn, HasAt, IsCell, Grown, AreCleared}
 use Rattle.lfg_chart.specs.Tables.{GrownBy, HasParts, HasRows, IsRow}
+use Rattle.lfg_chart.proofs.CellLaws.{cell_within}
 use Rattle.lfg_chart.proofs.FillLaws.{item_is}
 
 abbrev Part : Type 0
@@ -127,3 +128,23 @@ rows_of_parts rules table f = record {
 
     below : (cat : ℕ) (r : RuleLinks) → slice_get rules cat ≡ Some (Some r) → cat < length rules
     below = below_in rules
+
+-- parts that are there already, empty
+
+pub cleared_more : (old new newer : List Part) (count : ℕ) (part : Part) → part ≡ get_or old count part → AreCleared old new count → Grown new newer (length part.items) → AreCleared old newer (count + 1)
+cleared_more old new newer count part at f g = record {
+  many = omega (arith, f.many, g.more);
+  cells = λ p i l h. elim (cases p l) [
+    | inl b ↦ g.cells p i (f.cells p i b h)
+    | inr e ↦ (
+        let there : IsCell old count i = (let P : ℕ → Type 0 = λ q. IsCell old q i in subst P e h) in
+        let m : i < length part.items = cell_within old count i part at there in
+        let n : length new ≡ p = f.many ∙ sym e in
+        rw n at (g.here i m)
+        )
+  ];
+  empty = λ p i k h. f.empty p i k (g.empty p i k h);
+}
+  where
+    cases : (p : ℕ) → p < count + 1 → (p < count) ⊎ (p ≡ count)
+    cases p l = grind arith

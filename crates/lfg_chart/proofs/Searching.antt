@@ -1,5 +1,5 @@
 -- Elements of lists by their places, and what a search finds in a list that ascends.
-use Rattle.std.proofs.Common.{◌≡◌, ℕ, zero, suc, ◌<◌, ◌≤◌, List, [], ◌∷◌, length, get_or, Some, refl, sym, ap, ◌∙◌, arith, inl, inr, ◌⊎◌, Ordering, Less, Equal, Greater}
+use Rattle.std.proofs.Common.{◌≡◌, ℕ, zero, suc, ◌<◌, ◌≤◌, List, [], ◌∷◌, length, get_or, Some, None, Option, refl, sym, ap, subst, ◌∙◌, arith, inl, inr, ◌⊎◌, Ordering, Less, Equal, Greater}
 use Rattle.std.specs.Prelude.{slice_get, Result, Ok, Err, IfSome, IfNone}
 use Rattle.std.specs.Result.{result_ok}
 use Rattle.std.specs.List.{HoldsAt}
@@ -88,3 +88,16 @@ module _ {X : Type 0} (cmp : X → X → Ordering) (total : IsTotalOrder cmp) wh
 
     pub found_at : (xs : List X) (x : X) (i : ℕ) → i < length xs → HoldsAt (λ y. cmp y x ≡ Equal) xs i → slice_get xs i ≡ Some x
     found_at xs x i l h = slice_get-get_or xs i x l ∙ ap (λ y. Some y) (ties (get_or xs i x) x (h x))
+
+  pub place_found : (ties : (x y : X) → cmp x y ≡ Equal → x ≡ y) → (xs : List X) (x : X) (r : Result ℕ ℕ) → IsSearchInRange r (length xs) → IsBinarySearchResult (λ y. cmp y x) xs r → IfSome (result_ok r) (λ place. slice_get xs place ≡ Some x)
+  place_found ties xs x (Ok i) b h = found_at ties xs x i b h
+  place_found ties xs x (Err i) b h = tt
+
+  pub place_missing : (ties : (x y : X) → cmp x y ≡ Equal → x ≡ y) → (xs : List X) (x : X) (r : Result ℕ ℕ) → IsBinarySearchResult (λ y. cmp y x) xs r → IfNone (result_ok r) (IsStrictlySortedBy cmp xs → ¬ In x xs)
+  place_missing ties xs x (Ok i) h = tt
+  place_missing ties xs x (Err i) h = λ s. not_there ties xs x i s h
+
+-- what is not found stands nowhere, also in a list that is the same
+pub missing_along : {X P : Type 0} (xs ys : List X) (x : X) (o : Option ℕ) → xs ≡ ys → P → IfNone o (P → ¬ In x xs) → IfNone o (¬ In x ys)
+missing_along xs ys x (Some k) e p h = tt
+missing_along xs ys x None e p h = (let Q : List _ → Type 0 = λ zs. ¬ In x zs in subst Q e (h p))

@@ -61,3 +61,9 @@ pub record Grown (old new : List (Vec Places Global)) (count : ℕ) : Type 0 whe
   pub cells : (p i : ℕ) → IsCell old p i → IsCell new p i
   pub here : (i : ℕ) → i < count → IsCell new (length old) i
   pub empty : (p i k : ℕ) → HasAt new p i k → HasAt old p i k
+
+-- the first `count` parts are there, empty
+pub record AreCleared (old new : List (Vec Places Global)) (count : ℕ) : Type 0 where
+  pub many : length new ≡ count
+  pub cells : (p i : ℕ) → p < count → IsCell old p i → IsCell new p i
+  pub empty : (p i k : ℕ) → ¬ HasAt new p i k

@@ -1,5 +1,6 @@
 pub mod Agenda
 pub mod Cells
+pub mod Chart
 pub mod Filling
 pub mod Meaning
 pub mod Nexts

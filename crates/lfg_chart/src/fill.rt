@@ -281,6 +281,7 @@ pub(crate) fn fill(rules: &[Option<RuleLinks>], table: &mut Table)
     requires { Ready rules.now table.old }
     ensures ready { Ready rules.now table.new }
     ensures size { table.new.size ≡ table.old.size }
+    ensures rows { (row : Row) → IsRow table.old row → IsRow table.new row }
     ensures exact { (row : Row) (from to : ℕ) → Holds table.new row from to ↔ Filled rules.now table.old row from to }
 {
     while sweep(rules, table) {}

@@ -128,4 +128,20 @@ impl Table {
         }
         Ok(Table { size, parts })
     }
+
+    /// The empty table with the same rows and places.
+    pub fn cleared(&self, alloc: Global) -> Result<Table, AllocError>
+        ensures size { IfOk result (λ table. table.size ≡ self.now.size) }
+        ensures rows { IfOk result (λ table. (row : Row) → IsRow self.now row → IsRow table row) }
+        ensures empty { IfOk result (λ table. (row : Row) (from to : ℕ) → ¬ Holds table row from to) }
+    {
+        let mut parts = Vec::new(alloc);
+        for part in &self.parts {
+            push_part(alloc, &mut parts, part.len())?;
+        }
+        Ok(Table {
+            size: self.size,
+            parts,
+        })
+    }
 }
