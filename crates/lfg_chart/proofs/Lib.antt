@@ -1,6 +1,7 @@
 pub mod AgendaLaws
 pub mod BuiltLaws
 pub mod CellLaws
+pub mod CheckLaws
 pub mod CollectLaws
 pub mod FillLaws
 pub mod ForkLaws

@@ -1,6 +1,7 @@
 pub mod Agenda
 pub mod Cells
 pub mod Chart
+pub mod Checked
 pub mod Filling
 pub mod Meaning
 pub mod Nexts

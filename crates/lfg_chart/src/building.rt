@@ -116,6 +116,23 @@ fn chart_of(
     })
 }
 
+/// The chart of a sentence by a grammar whose categories have numbers.
+pub(crate) fn chart_by<L: Ledger>(
+    alloc: Global,
+    grammar: &Grammar,
+    tokens: &[TokenForms],
+    steps: &mut Steps<L>,
+) -> Result<Chart, AllocError>
+    requires numbered { IsNumbered grammar.now }
+    requires fillable { IsFillable grammar.now }
+    requires tokens { length tokens.now ≤ 64 }
+    ensures chart { IfOk result (λ chart. IsChart grammar.now tokens.now chart.edges chart.forks) }
+    ensures steps { steps.new ≤ steps.old + (4 * (length tokens.now + 1) ^ 3) * (item_total grammar.now + 1) ^ 2 }
+{
+    let rules = rules_of(alloc, grammar.cats.list(), grammar.rules.list(), steps)?;
+    chart_of(alloc, grammar, tokens, &rules)
+}
+
 /// The chart of a sentence by a grammar.
 ///
 /// Edges are built from the words up by the graphs of the rules, and what no whole derivation has
@@ -136,6 +153,5 @@ pub fn chart<L: Ledger>(
     ensures chart { IfOk result (λ chart. IsChart grammar.now tokens.now chart.edges chart.forks) }
     ensures steps { steps.new ≤ steps.old + (4 * (length tokens.now + 1) ^ 3) * (item_total grammar.now + 1) ^ 2 }
 {
-    let rules = rules_of(alloc, grammar.cats.list(), grammar.rules.list(), steps)?;
-    chart_of(alloc, grammar, tokens, &rules)
+    chart_by(alloc, grammar, tokens, steps)
 }

@@ -60,7 +60,7 @@ impl Chart {
     /// The ways to go on at the point with this place among the points, counted from 0. Takes no
     /// memory.
     pub fn alternatives_at(&self, place: usize) -> &[Next]
-        requires { place < length self.now.forks }
+        requires { place < length (points_of self.now.forks) }
         ensures { (point : Point) × (slice_get self.now.forks place ≡ Some (point, result.now)) }
     {
         self.nexts[place].list()

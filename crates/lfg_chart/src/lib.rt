@@ -7,6 +7,8 @@
 #![tactic(auto)]
 
 mod building;
+#[cfg(test)]
+mod checked;
 mod fill;
 mod kept;
 mod layout;
@@ -16,6 +18,8 @@ mod places;
 mod points;
 mod rules;
 mod table;
+#[cfg(test)]
+mod tests;
 mod words;
 
 pub use building::chart;
