@@ -32,10 +32,10 @@ pub names_more : (names : List Name) (i : ℕ) (x y : Name) → 1 ≤ i → i < 
 names_more names i x y s l e f c before k m = elim (cases k m) [
   | inl b ↦ before k b
   | inr same ↦ (
-    let a : get_or names k [] ≡ x = ap (λ j. get_or names j []) (let n : k ≡ i - 1 = omega arith in n) ∙ other names (i - 1) x (omega arith) e in
-    let b : get_or names (k + 1) [] ≡ y = ap (λ j. get_or names j []) same ∙ other names i y l f in
-    rw (a, b) c
-  )
+      let a : get_or names k [] ≡ x = ap (λ j. get_or names j []) (let n : k ≡ i - 1 = omega arith in n) ∙ other names (i - 1) x (omega arith) e in
+      let b : get_or names (k + 1) [] ≡ y = ap (λ j. get_or names j []) same ∙ other names i y l f in
+      rw (a, b) c
+      )
 ]
   where
     cases : (k : ℕ) → k + 1 < i + 1 → (k + 1 < i) ⊎ (k + 1 ≡ i)
@@ -54,11 +54,11 @@ pub numbers_of_items : (items : List ℕ) (size i : ℕ) → length items ≤ i 
 numbers_of_items items size i l f = record {
   ascend = sorted_from_all_adjacent nat_cmp_total items 0 (λ k m. less k (let n : k + 1 - 1 ≡ k = omega arith in rw n at ((f (k + 1) (omega arith)).2 (omega arith))));
   within = λ p h. (
-    let at = In-place h in
-    let r = f at.0 (omega (arith, at.1)) in
-    let e : get_or items at.0 0 ≡ p = at.2 0 in
-    (omega (arith, r.0, e), omega (arith, r.1, e))
-  );
+      let at = In-place h in
+      let r = f at.0 (omega (arith, at.1)) in
+      let e : get_or items at.0 0 ≡ p = at.2 0 in
+      (omega (arith, r.0, e), omega (arith, r.1, e))
+      );
 }
   where
     less : (k : ℕ) → get_or items k 0 < get_or items (k + 1) 0 → nat_cmp (get_or items k 0) (get_or items (k + 1) 0) ≡ Less
@@ -76,10 +76,10 @@ plain_numbered g s r rules words = record { ordered = s; rules = λ rule i. (rul
 pub plain_fillable : (g : Grammar) → ((rule : Rule) → In rule g.rules → IsPlainRule g.cats rule) → ((lex : Lex) → In lex g.lexicon → In lex.cat g.cats × (lex.schemata ≡ [])) → IsFillable g
 plain_fillable g rules words = record {
   items = λ cat rule occ item is at. (
-    let r = rules rule (In_from_find (λ x. same_name x.cat cat) g.rules rule is).0 in
-    let e = r.plain item (item_in rule.items occ item at) in
-    ([], rw e tt)
-  );
+      let r = rules rule (In_from_find (λ x. same_name x.cat cat) g.rules rule is).0 in
+      let e = r.plain item (item_in rule.items occ item at) in
+      ([], rw e tt)
+      );
   entries = λ k lex at. (let e = (words lex (get_In g.lexicon k lex at)).1 in ([], rw e tt));
 }
 

@@ -53,6 +53,15 @@ fn rule(alloc: Global, cat: &str, items: &[&str], rhs: Rhs) -> Result<Rule, Fail
     })
 }
 
+/// A rule whose right side is the row of these items.
+fn plain_rule(alloc: Global, cat: &str, items: &[&str]) -> Result<Rule, Fail> {
+    let mut parts = Vec::new(alloc);
+    for part in items {
+        parts.push(item(alloc, part)?)?;
+    }
+    rule(alloc, cat, items, Rhs::Row(parts))
+}
+
 /// A grammar with these categories, in the order of their bytes, and these words with their
 /// categories.
 fn grammar(
@@ -102,6 +111,11 @@ fn charted<L: Ledger>(
         return Err(AllocError)?;
     }
     Ok(chart_by(alloc, grammar, &tokens, &mut Steps::<L>::new(blank))?)
+}
+
+/// The same, with a counter of steps of its own.
+fn chart_by_words(alloc: Global, grammar: &Grammar, words: &[&str]) -> Result<Chart, Fail> {
+    charted::<Brand>(alloc, grammar, words, Blank::new(1))
 }
 
 fn edges_text(alloc: Global, chart: &Chart) -> Result<String, Fail> {
@@ -154,8 +168,11 @@ fn point(alloc: Global, cat: &str, span: (u32, u32), occ: u32, at: u32) -> Resul
 #[test]
 fn chart_of_a_list(rt: HostRuntime) -> Result<(), Fail> {
     let alloc = rt.alloc();
-    let chart = charted::<Brand>(alloc, &list_grammar(alloc)?, &["w", "w"], Blank::new(1))?;
-    assert_eq!(rt; edges_text(alloc, &chart)?.as_str(), "L:0:2 W:0:1 L:1:2 W:1:2 ");
+    let chart = chart_by_words(alloc, &list_grammar(alloc)?, &["w", "w"])?;
+    assert_eq!(rt;
+        edges_text(alloc, &chart)?.as_str(),
+        "L:0:2 W:0:1 L:1:2 W:1:2 "
+    );
     let points = "L:0:2 0@0: 1>1; L:0:2 1@1: 2>2; L:0:2 2@2: end; L:1:2 0@1: 1>2; L:1:2 1@2: end; ";
     assert_eq!(rt; points_text(alloc, &chart)?.as_str(), points);
     Ok(())
@@ -164,7 +181,7 @@ fn chart_of_a_list(rt: HostRuntime) -> Result<(), Fail> {
 #[test]
 fn what_is_in_a_chart_and_what_is_not(rt: HostRuntime) -> Result<(), Fail> {
     let alloc = rt.alloc();
-    let chart = charted::<Brand>(alloc, &list_grammar(alloc)?, &["w", "w"], Blank::new(1))?;
+    let chart = chart_by_words(alloc, &list_grammar(alloc)?, &["w", "w"])?;
     let there = point(alloc, "L", (0, 2), 1, 1)?;
     let absent = point(alloc, "L", (0, 2), 1, 2)?;
     let expected = [Next::Item { occ: 2, to: 2 }];
@@ -174,34 +191,38 @@ fn what_is_in_a_chart_and_what_is_not(rt: HostRuntime) -> Result<(), Fail> {
     assert_eq!(rt; chart.alternatives_at(1), expected.as_slice());
     assert_eq!(rt; chart.place_of_point(&there), Some(1));
     assert_eq!(rt; chart.place_of_point(&absent), None);
-    assert_eq!(rt; chart.place_of_edge(&point(alloc, "W", (1, 2), 0, 0)?.edge), Some(3));
-    assert_eq!(rt; chart.place_of_edge(&point(alloc, "W", (0, 2), 0, 0)?.edge), None);
+    assert_eq!(rt;
+        chart.place_of_edge(&point(alloc, "W", (1, 2), 0, 0)?.edge),
+        Some(3)
+    );
+    assert_eq!(rt;
+        chart.place_of_edge(&point(alloc, "W", (0, 2), 0, 0)?.edge),
+        None
+    );
     Ok(())
 }
 
-#[test]
-fn no_chart_without_a_derivation(rt: HostRuntime) -> Result<(), Fail> {
-    let alloc = rt.alloc();
-    let sentence = Rhs::Row(vec![in alloc; item(alloc, "NP")?, item(alloc, "VP")?]?);
-    let noun_phrase = Rhs::Row(vec![in alloc; item(alloc, "D")?, item(alloc, "N")?]?);
-    let rules = vec![in alloc;
-        rule(alloc, "S", &["NP", "VP"], sentence)?,
-        rule(alloc, "NP", &["D", "N"], noun_phrase)?,
-        rule(alloc, "VP", &["V"], item(alloc, "V")?)?,
-    ]?;
+/// Sentences of a noun phrase and a verb.
+fn small_grammar(alloc: Global) -> Result<Grammar, Fail> {
+    let mut rules = Vec::new(alloc);
+    rules.push(plain_rule(alloc, "S", &["NP", "VP"])?)?;
+    rules.push(plain_rule(alloc, "NP", &["D", "N"])?)?;
+    rules.push(plain_rule(alloc, "VP", &["V"])?)?;
     let cats = ["D", "N", "NP", "S", "V", "VP"];
     let words = [("the", "D"), ("man", "N"), ("walks", "V")];
-    let grammar = grammar(alloc, "S", &cats, rules, &words)?;
-    for (words, edges) in [
-        (["man", "the", "walks"], ""),
-        (["the", "man", "walks"], "S:0:3 NP:0:2 D:0:1 N:1:2 V:2:3 VP:2:3 "),
-    ] {
-        let chart = charted::<Brand>(alloc, &grammar, &words, Blank::new(1))?;
-        assert_eq!(rt; edges_text(alloc, &chart)?.as_str(), edges);
-    }
-    let chart = charted::<Brand>(alloc, &grammar, &["man", "the"], Blank::new(1))?;
-    assert_eq!(rt; edges_text(alloc, &chart)?.as_str(), "");
-    assert_eq!(rt; points_text(alloc, &chart)?.as_str(), "");
+    grammar(alloc, "S", &cats, rules, &words)
+}
+
+#[test]
+fn no_edges_without_a_derivation(rt: HostRuntime) -> Result<(), Fail> {
+    let alloc = rt.alloc();
+    let grammar = small_grammar(alloc)?;
+    let chart = chart_by_words(alloc, &grammar, &["the", "man", "walks"])?;
+    let edges = "S:0:3 NP:0:2 D:0:1 N:1:2 V:2:3 VP:2:3 ";
+    assert_eq!(rt; edges_text(alloc, &chart)?.as_str(), edges);
+    let chart = chart_by_words(alloc, &grammar, &["man", "the"])?;
+    assert_eq!(rt; chart.edges().len(), 0);
+    assert_eq!(rt; chart.points().len(), 0);
     Ok(())
 }
 
@@ -211,29 +232,34 @@ fn empty_items_cover_nothing(rt: HostRuntime) -> Result<(), Fail> {
     let rhs = Rhs::Row(vec![in alloc; item(alloc, "e")?, item(alloc, "A")?, maybe(alloc, "e")?]?);
     let rules = vec![in alloc; rule(alloc, "S", &["e", "A", "e"], rhs)?]?;
     let grammar = grammar(alloc, "S", &["A", "S"], rules, &[("a", "A")])?;
-    let chart = charted::<Brand>(alloc, &grammar, &["a"], Blank::new(1))?;
+    let chart = chart_by_words(alloc, &grammar, &["a"])?;
     assert_eq!(rt; edges_text(alloc, &chart)?.as_str(), "A:0:1 S:0:1 ");
     let points = "S:0:1 0@0: 1>0; S:0:1 1@0: 2>1; S:0:1 2@1: 3>1 end; S:0:1 3@1: end; ";
     assert_eq!(rt; points_text(alloc, &chart)?.as_str(), points);
     Ok(())
 }
 
-/// Noun phrases and verb phrases with any number of prepositional phrases.
-fn english(alloc: Global) -> Result<Grammar, Fail> {
-    let sentence = Rhs::Row(vec![in alloc; item(alloc, "NP")?, item(alloc, "VP")?]?);
+/// `NP --> {PN | D N} PP*`
+fn noun_phrase(alloc: Global) -> Result<Rule, Fail> {
     let noun = Rhs::Row(vec![in alloc; item(alloc, "D")?, item(alloc, "N")?]?);
     let head = Rhs::OneOf(vec![in alloc; item(alloc, "PN")?, noun]?);
-    let noun_phrase = Rhs::Row(vec![in alloc; head, star(alloc, "PP")?]?);
-    let verb_phrase = Rhs::Row(
-        vec![in alloc; item(alloc, "V")?, maybe(alloc, "NP")?, star(alloc, "PP")?]?,
-    );
-    let phrase = Rhs::Row(vec![in alloc; item(alloc, "P")?, item(alloc, "NP")?]?);
-    let rules = vec![in alloc;
-        rule(alloc, "S", &["NP", "VP"], sentence)?,
-        rule(alloc, "NP", &["PN", "D", "N", "PP"], noun_phrase)?,
-        rule(alloc, "VP", &["V", "NP", "PP"], verb_phrase)?,
-        rule(alloc, "PP", &["P", "NP"], phrase)?,
-    ]?;
+    let rhs = Rhs::Row(vec![in alloc; head, star(alloc, "PP")?]?);
+    rule(alloc, "NP", &["PN", "D", "N", "PP"], rhs)
+}
+
+/// `VP --> V (NP) PP*`
+fn verb_phrase(alloc: Global) -> Result<Rule, Fail> {
+    let parts = vec![in alloc; item(alloc, "V")?, maybe(alloc, "NP")?, star(alloc, "PP")?]?;
+    rule(alloc, "VP", &["V", "NP", "PP"], Rhs::Row(parts))
+}
+
+/// Noun phrases and verb phrases with any number of prepositional phrases.
+fn english(alloc: Global) -> Result<Grammar, Fail> {
+    let mut rules = Vec::new(alloc);
+    rules.push(plain_rule(alloc, "S", &["NP", "VP"])?)?;
+    rules.push(noun_phrase(alloc)?)?;
+    rules.push(verb_phrase(alloc)?)?;
+    rules.push(plain_rule(alloc, "PP", &["P", "NP"])?)?;
     let cats = ["D", "N", "NP", "P", "PN", "PP", "S", "V", "VP"];
     let words = [
         ("Mary", "PN"),
@@ -251,7 +277,7 @@ fn english(alloc: Global) -> Result<Grammar, Fail> {
 fn alternatives_in_order(rt: HostRuntime) -> Result<(), Fail> {
     let alloc = rt.alloc();
     let words = ["Mary", "sees", "the", "man", "in", "the", "park"];
-    let chart = charted::<Brand>(alloc, &english(alloc)?, &words, Blank::new(1))?;
+    let chart = chart_by_words(alloc, &english(alloc)?, &words)?;
     let place = point(alloc, "VP", (1, 7), 1, 2)?;
     let expected = [Next::Item { occ: 2, to: 4 }, Next::Item { occ: 2, to: 7 }];
     assert_eq!(rt; chart.alternatives(&place), expected.as_slice());
@@ -259,7 +285,11 @@ fn alternatives_in_order(rt: HostRuntime) -> Result<(), Fail> {
 }
 
 fn count(chart: &Chart, cat: &str) -> usize {
-    chart.edges().iter().filter(|edge| edge.cat.text() == cat).count()
+    chart
+        .edges()
+        .iter()
+        .filter(|edge| edge.cat.text() == cat)
+        .count()
 }
 
 #[test]
@@ -271,15 +301,31 @@ fn many_prepositional_phrases(rt: HostRuntime) -> Result<(), Fail> {
         words.push("the")?;
         words.push("park")?;
     }
-    let chart = charted::<Brand>(alloc, &english(alloc)?, &words, Blank::new(1))?;
+    let chart = chart_by_words(alloc, &english(alloc)?, &words)?;
     assert_eq!(rt; chart.edges().len(), 485);
-    for (cat, expected) in [("PP", 210), ("NP", 211), ("S", 1), ("VP", 1), ("PN", 1), ("V", 1)] {
+    let counts = [
+        ("PP", 210),
+        ("NP", 211),
+        ("S", 1),
+        ("VP", 1),
+        ("PN", 1),
+        ("V", 1),
+        ("P", 20),
+        ("D", 20),
+        ("N", 20),
+    ];
+    for (cat, expected) in counts {
         assert_eq!(rt; count(&chart, cat), expected, "{cat}");
     }
-    for cat in ["P", "D", "N"] {
-        assert_eq!(rt; count(&chart, cat), 20, "{cat}");
-    }
-    assert!(rt; chart.place_of_edge(&point(alloc, "S", (0, 62), 0, 0)?.edge).is_some());
-    assert!(rt; chart.place_of_edge(&point(alloc, "VP", (1, 62), 0, 0)?.edge).is_some());
+    assert!(rt;
+        chart
+            .place_of_edge(&point(alloc, "S", (0, 62), 0, 0)?.edge)
+            .is_some()
+    );
+    assert!(rt;
+        chart
+            .place_of_edge(&point(alloc, "VP", (1, 62), 0, 0)?.edge)
+            .is_some()
+    );
     Ok(())
 }

@@ -12,12 +12,12 @@ use Rattle.lfg_chart.proofs.checked.is_checked.Goals as goal
 pub loop-rule-preserved : goal.loop-rule-preserved
 loop-rule-preserved c =
     all_more (λ (x : Rule). IsPlainRule c.list-cats.result.now x) c.list-rule-items.result.now c.loop-rule.rule-index c.rule-item.result (omega arith) c.rule-item.is c.loop-rule.invariant
-      (c.is_plain_rule.ensures (true_is c.if-not-is_plain_rule.false))
+    (c.is_plain_rule.ensures (true_is c.if-not-is_plain_rule.false))
 
 pub loop-lex-preserved : goal.loop-lex-preserved
 loop-lex-preserved c =
     all_more (λ (x : Lex). In x.cat c.list-cats.result.now × (x.schemata ≡ [])) c.list-lex-items.result.now c.loop-lex.lex-index c.lex-item.result (omega arith) c.lex-item.is c.loop-lex.invariant
-      (c.is_known-in-loop-lex.ensures (true_is c.if-not-is_known-2.false), sym c.list.ensures ∙ no_items c.list.result.now (sym c.if-not-is_empty.false ∙ c.is_empty.ensures))
+    (c.is_known-in-loop-lex.ensures (true_is c.if-not-is_known-2.false), sym c.list.ensures ∙ no_items c.list.result.now (sym c.if-not-is_empty.false ∙ c.is_empty.ensures))
 
 pub returns-clause-numbered : goal.returns-clause-numbered
 returns-clause-numbered c = λ _. (

@@ -10,7 +10,7 @@ pub loop-items-preserved : goal.loop-items-preserved
 loop-items-preserved c =
     let P : List ℕ → Type 0 = λ ps. AreItems c.args.graph.now.size ps in
     all_more P c.list-next.result.now c.loop-items.items-index c.items-item.result (omega arith) c.items-item.is c.loop-items.invariant
-      (subst P c.list-in-loop-items.ensures (c.are_items-in-loop-items.ensures (true_is c.if-not-are_items-2.false)))
+    (subst P c.list-in-loop-items.ensures (c.are_items-in-loop-items.ensures (true_is c.if-not-are_items-2.false)))
 
 pub returns : goal.returns
 returns c = λ _. (

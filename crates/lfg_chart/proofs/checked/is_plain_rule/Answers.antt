@@ -10,7 +10,7 @@ use Rattle.lfg_chart.proofs.checked.is_plain_rule.Goals as goal
 pub loop-item-preserved : goal.loop-item-preserved
 loop-item-preserved c =
     all_more (λ (x : Item). IsPlainItem c.args.cats.now x) c.list-items.result.now c.loop-item.item-index c.item-item.result (omega arith) c.item-item.is c.loop-item.invariant
-      (c.is_plain.ensures (true_is c.if-not-is_plain.false))
+    (c.is_plain.ensures (true_is c.if-not-is_plain.false))
 
 pub returns : goal.returns
 returns c = λ _. (
