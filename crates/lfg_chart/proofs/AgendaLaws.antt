@@ -1,18 +1,15 @@
 -- Edges that are gathered.
-use Rattle.std.proofs.Common.{◌≡◌, ℕ, zero, suc, ◌+◌, ◌<◌, ◌≤◌, ◌⊎◌, inl, inr, Bool, true, false, Option, Some, None, List, [], ◌∷◌, ◌++◌, length, get_or, take, refl, sym, ap, subst, ◌∙◌, arith}
+use Rattle.std.proofs.Common.{◌≡◌, ℕ, zero, suc, ◌+◌, ◌<◌, ◌≤◌, ◌⊎◌, inl, inr, Bool, true, false, Some, List, [], ◌∷◌, ◌++◌, length, get_or, take, refl, sym, ap, subst, ◌∙◌, arith}
 use Rattle.std.specs.Prelude.{◌↔◌, slice_get}
 use Rattle.std.proofs.lemmas.Option.{slice_get_within}
 use Rattle.std.proofs.lemmas.List.{take_more, length-append, append-nil}
-use Rattle.lfg_model.specs.Lists as lists
-use Rattle.lfg_model.specs.Lists.{In, here, later}
-use Rattle.lfg_model.proofs.ListLaws.{In-nil, In-take_more, In-append_left, In-push, In-push_cases, Extends-refl, Extends-push, Extends-trans}
+use Rattle.lfg_model.specs.Lists.{In}
+use Rattle.lfg_model.proofs.ListLaws.{In-nil, In-take_more, In-append_left, In-push, In-push_cases, Extends-refl, Extends-trans}
 use Rattle.lfg_chart.specs.declared.kept.Agenda.{Agenda}
 use Rattle.lfg_chart.specs.declared.kept.Span.{Span}
 use Rattle.lfg_chart.specs.declared.places.Places.{Places}
-use Rattle.lfg_chart.specs.declared.links.Link.{Link}
-use Rattle.lfg_chart.specs.declared.links.RuleLinks.{RuleLinks}
 use Rattle.lfg_chart.specs.declared.table.Row.{Row}
-use Rattle.lfg_chart.specs.declared.table.Row.TheVariants.{Whole, Read, Left}
+use Rattle.lfg_chart.specs.declared.table.Row.TheVariants.{Whole}
 use Rattle.lfg_chart.specs.declared.table.Table.{Table}
 use Rattle.lfg_chart.specs.Places.{Has}
 use Rattle.lfg_chart.specs.Tables.{Holds, IsRow, Adds, room_in}

@@ -1,5 +1,5 @@
 -- The chart that is built is that of the sentence.
-use Rattle.std.proofs.Common.{◌≡◌, ℕ, ◌+◌, ◌-◌, ◌<◌, ◌≤◌, Option, Some, None, List, length, refl, sym, ap, subst, ◌∙◌, arith}
+use Rattle.std.proofs.Common.{◌≡◌, ℕ, ◌-◌, ◌<◌, Some, List, length, sym, subst, arith}
 use Rattle.std.specs.Prelude.{◌↔◌, slice_get}
 use Rattle.lfg_terms.specs.Order.{edge_cmp}
 use Rattle.lfg_terms.specs.declared.node.Edge.{Edge}
@@ -7,12 +7,11 @@ use Rattle.lfg_terms.specs.declared.grammar.Grammar.{Grammar}
 use Rattle.lfg_terms.specs.declared.tree.TokenForms.{TokenForms}
 use Rattle.lfg_model.specs.declared.point.Point.{Point}
 use Rattle.lfg_model.specs.declared.point.Next.{Next}
-use Rattle.lfg_model.specs.Charts.{Fork, IsChart, points_of}
-use Rattle.lfg_model.specs.Kept.{Kept, KeptSpot, IsFillable}
+use Rattle.lfg_model.specs.Charts.{Fork, IsChart}
+use Rattle.lfg_model.specs.Kept.{KeptSpot, IsFillable}
 use Rattle.lfg_model.specs.Lists.{In, Lists}
 use Rattle.lfg_model.specs.Points.{point_cmp, next_cmp}
 use Rattle.lfg_model.specs.Spots.{AStep}
-use Rattle.lfg_model.specs.Terms.{Name}
 use Rattle.lfg_model.proofs.ChartLaws.{Lists-same, chart_of_kept}
 use Rattle.lfg_chart.specs.declared.kept.Span.{Span}
 use Rattle.lfg_chart.specs.declared.table.Table.{Table}

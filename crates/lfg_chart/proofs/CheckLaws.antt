@@ -1,26 +1,23 @@
 -- Tests of grammars, over their lists.
 use Rattle.std.proofs.Common.{◌≡◌, ℕ, zero, suc, ◌+◌, ◌-◌, ◌<◌, ◌≤◌, ◌⊎◌, inl, inr, Some, None, List, [], ◌∷◌, length, get_or, take, Less, refl, sym, ap, subst, ◌∙◌, arith, true, ◌==◌}
-use Rattle.std.specs.Prelude.{slice_get}
 use Rattle.std.specs.Ordering.{nat_cmp}
 use Rattle.std.specs.List.Sorted.{IsStrictlySortedBy}
 use Rattle.std.proofs.lemmas.Cmp.{nat_list_cmp_total, nat_cmp_total}
 use Rattle.std.proofs.lemmas.Map.Keys.{sorted_from_all_adjacent}
-use Rattle.std.proofs.lemmas.Option.{slice_get_within}
 use Rattle.lfg_terms.specs.Order.{name_cmp}
 use Rattle.lfg_terms.specs.declared.grammar.Item.{Item}
 use Rattle.lfg_terms.specs.declared.grammar.Lex.{Lex}
 use Rattle.lfg_terms.specs.declared.grammar.Rule.{Rule}
 use Rattle.lfg_terms.specs.declared.grammar.Grammar.{Grammar}
-use Rattle.lfg_model.specs.Derive.{item_at, rule_of}
-use Rattle.lfg_model.specs.Graphs.{AreItems, IsGraph}
+use Rattle.lfg_model.specs.Derive.{item_at}
+use Rattle.lfg_model.specs.Graphs.{AreItems}
 use Rattle.lfg_model.specs.Kept.{IsFillable}
 use Rattle.lfg_model.specs.Lists.{In}
-use Rattle.lfg_model.specs.Places.{places, PicksFit}
-use Rattle.lfg_model.specs.Terms.{Name, same_name, annotation_of}
+use Rattle.lfg_model.specs.Terms.{Name, same_name}
 use Rattle.lfg_model.proofs.ListLaws.{In-take_more, In-place}
 use Rattle.lfg_model.proofs.ManWalksTree.{In_from_find}
-use Rattle.lfg_chart.specs.Checked.{IsPlainItem, IsPlainRule}
-use Rattle.lfg_chart.specs.Numbers.{IsNumbered, IsRuleOver}
+use Rattle.lfg_chart.specs.Checked.{IsPlainRule}
+use Rattle.lfg_chart.specs.Numbers.{IsNumbered}
 use Rattle.lfg_chart.proofs.Searching.{get_In}
 
 pub all_more : {X : Type 0} (P : X → Type 0) (xs : List X) (i : ℕ) (x : X) → i < length xs → x ≡ get_or xs i x → ((y : X) → In y (take i xs) → P y) → P x → (y : X) → In y (take (i + 1) xs) → P y

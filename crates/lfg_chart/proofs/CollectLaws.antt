@@ -1,6 +1,6 @@
 -- Lists that collect elements.
-use Rattle.std.proofs.Common.{◌≡◌, ℕ, zero, suc, ◌+◌, ◌<◌, ◌≤◌, ◌⊎◌, inl, inr, Option, Some, None, List, [], ◌∷◌, ◌++◌, length, get_or, take, refl, sym, ap, subst, ◌∙◌, arith, rules, Bool, true, false, IsTrue, ◌||◌}
-use Rattle.std.specs.Prelude.{◌↔◌, slice_get}
+use Rattle.std.proofs.Common.{◌≡◌, ℕ, zero, suc, ◌+◌, ◌<◌, ◌≤◌, ◌⊎◌, inl, inr, List, [], ◌∷◌, ◌++◌, length, get_or, take, refl, sym, ap, subst, ◌∙◌, arith, rules, Bool, true, false, IsTrue, ◌||◌}
+use Rattle.std.specs.Prelude.{◌↔◌}
 use Rattle.lfg_terms.specs.declared.node.Edge.{Edge}
 use Rattle.lfg_model.specs.declared.point.Point.{Point}
 use Rattle.std.specs.List.{list_any}
@@ -9,7 +9,7 @@ use Rattle.lfg_model.specs.Lists.{In, here, later}
 use Rattle.lfg_model.specs.Terms.{Name}
 use Rattle.lfg_model.proofs.ListLaws.{In-nil, In-append_left, In-push, In-push_cases, In-cons_cases}
 use Rattle.lfg_chart.specs.declared.kept.Span.{Span}
-use Rattle.lfg_chart.specs.declared.table.Row.TheVariants.{Whole, Read, Left}
+use Rattle.lfg_chart.specs.declared.table.Row.TheVariants.{Read, Left}
 use Rattle.lfg_chart.specs.declared.table.Table.{Table}
 use Rattle.lfg_chart.specs.Tables.{Holds}
 use Rattle.lfg_chart.specs.Points.{Collects, IsEdgeOf, IsPointAt, IsPointBehind, IsPointFrom}

@@ -1,16 +1,15 @@
 -- Sweeps over a table.
-use Rattle.std.proofs.Common.{◌≡◌, ℕ, zero, suc, ◌+◌, ◌<◌, ◌≤◌, ◌⊎◌, inl, inr, Bool, true, false, ◌||◌, Option, Some, None, List, [], ◌∷◌, length, ◌++◌, take, get_or, sym, refl, ◌∙◌, ap, subst, arith, below_more}
+use Rattle.std.proofs.Common.{◌≡◌, ℕ, zero, suc, ◌+◌, ◌<◌, ◌≤◌, ◌⊎◌, inl, inr, Bool, true, false, ◌||◌, Some, None, List, [], ◌∷◌, length, take, get_or, sym, refl, ◌∙◌, ap, subst, arith, below_more}
 use Rattle.std.specs.Prelude.{slice_get, ◌↔◌}
-use Rattle.lfg_model.specs.Lists.{In, here, later}
-use Rattle.lfg_model.proofs.ListLaws.{In-nil, In-take_more}
+use Rattle.lfg_model.proofs.ListLaws.{In-take_more}
 use Rattle.lfg_chart.specs.declared.places.Places.{Places}
 use Rattle.lfg_chart.specs.declared.links.Link.{Link}
 use Rattle.lfg_chart.specs.declared.links.RuleLinks.{RuleLinks}
 use Rattle.lfg_chart.specs.declared.table.Row.{Row}
 use Rattle.lfg_chart.specs.declared.table.Table.{Table}
 use Rattle.lfg_chart.specs.Places.{Has}
-use Rattle.lfg_chart.specs.Tables.{IsRow, Holds, Step, Adds, room_in}
-use Rattle.lfg_chart.specs.Filling.{Rules, IsRule, IsLink, IsStart, IsCopy, IsJoin, Filled, first, started, copied, joined, nothing_read, nothing_left, all_read, empty_read, empty_left, read_over, left_over, IsSound, Ready, Turn, MeetsLink, MeetsLinks, MeetsLast, MeetsLasts, MeetsRule, MeetsRules, MeetsAll, MeetsCopy, MeetsJoin, MeetsStart}
+use Rattle.lfg_chart.specs.Tables.{Holds, Step, Adds, room_in}
+use Rattle.lfg_chart.specs.Filling.{Rules, IsRule, Filled, first, started, copied, joined, nothing_read, nothing_left, all_read, empty_read, empty_left, read_over, left_over, IsSound, Ready, Turn, MeetsLink, MeetsLinks, MeetsLast, MeetsLasts, MeetsRule, MeetsRules, MeetsAll}
 
 -- what is filled over a table that has no more than the rules give over another
 sound_filled : (rules : Rules) (a b : Table) → b.size ≡ a.size → IsSound rules a b → {row : Row} {i j : ℕ} → Filled rules b row i j → Filled rules a row i j

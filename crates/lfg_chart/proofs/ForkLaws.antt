@@ -1,6 +1,6 @@
 -- Points with the ways to go on beside them.
-use Rattle.std.proofs.Common.{◌≡◌, ℕ, zero, suc, ◌+◌, ◌<◌, ◌≤◌, Bool, true, false, cond, IsTrue, Option, Some, None, List, [], ◌∷◌, ◌++◌, length, get_or, refl, sym, ap, subst, ◌∙◌, arith, rules}
-use Rattle.std.specs.Prelude.{◌↔◌, slice_get, Result, Ok, Err, IfSome, IfNone}
+use Rattle.std.proofs.Common.{◌≡◌, ℕ, zero, suc, ◌<◌, Bool, true, false, IsTrue, Some, None, List, [], ◌∷◌, ◌++◌, length, get_or, refl, sym, ap, subst, ◌∙◌, arith, rules}
+use Rattle.std.specs.Prelude.{slice_get}
 use Rattle.std.specs.Ordering.{eq_by_cmp}
 use Rattle.std.specs.List.Sorted.{IsStrictlySortedBy}
 use Rattle.lfg_model.specs.declared.point.Point.{Point}
@@ -16,7 +16,7 @@ use Rattle.lfg_chart.specs.Chart.{forks_of, AreForks}
 use Rattle.lfg_chart.specs.Filling.{Rules}
 use Rattle.lfg_chart.specs.Nexts.{NextsOf}
 use Rattle.lfg_chart.proofs.CellLaws.{true_is}
-use Rattle.lfg_chart.proofs.Searching.{one_place, get_In}
+use Rattle.lfg_chart.proofs.Searching.{one_place}
 
 pub forks_points : (ps : List Point) (nss : List (List Next)) → length nss ≡ length ps → points_of (forks_of ps nss) ≡ ps
 forks_points [] nss l = refl

@@ -1,5 +1,5 @@
 -- Kept edges, points and ways to go on, by the rows of a filled table.
-use Rattle.std.proofs.Common.{◌≡◌, ℕ, zero, suc, ◌+◌, ◌<◌, ◌≤◌, ◌⊎◌, inl, inr, Option, Some, None, List, [], ◌∷◌, length, refl, sym, ap, subst, ◌∙◌, arith}
+use Rattle.std.proofs.Common.{◌≡◌, ℕ, ◌<◌, ◌≤◌, inl, inr, Option, Some, None, List, length, refl, sym, subst, ◌∙◌, arith}
 use Rattle.std.specs.Prelude.{◌↔◌, slice_get}
 use Rattle.lfg_terms.specs.declared.node.Edge.{Edge}
 use Rattle.lfg_terms.specs.declared.grammar.Item.{Item}
@@ -12,31 +12,28 @@ use Rattle.lfg_model.specs.declared.point.Next.TheVariants as next
 use Rattle.lfg_model.specs.Terms.{Name}
 use Rattle.lfg_model.specs.Lists.{In}
 use Rattle.lfg_model.specs.Derive.{rule_of, item_at, CanFollow, CanEnd, edge}
-use Rattle.lfg_model.specs.Grounded.{IsEmptyItem, IsItemOf}
 use Rattle.lfg_model.specs.Spots.{point, AStep}
 use Rattle.lfg_model.specs.Kept.{Derivable, Crosses, by_none, by_edge, Reaches, Ends, at_end, before, Kept, as_root, as_daughter, KeptSpot, a_step, an_end, IsFillable}
-use Rattle.lfg_model.specs.ChartRows.{OfCategory, ReadUpTo, LeftBehind, ChartRow}
+use Rattle.lfg_model.specs.ChartRows.{OfCategory, ReadUpTo, LeftBehind}
 use Rattle.lfg_model.proofs.RowLaws.{rows_mean, row_spans}
 use Rattle.lfg_model.proofs.OneTree.{same_some}
 use Rattle.lfg_chart.specs.declared.kept.Span.{Span}
 use Rattle.lfg_chart.specs.declared.links.Link.{Link}
-use Rattle.lfg_chart.specs.declared.links.RuleLinks.{RuleLinks}
-use Rattle.lfg_chart.specs.declared.table.Row.{Row}
 use Rattle.lfg_chart.specs.declared.table.Row.TheVariants.{Whole, Read, Left}
 use Rattle.lfg_chart.specs.declared.table.Table.{Table}
 use Rattle.lfg_chart.specs.Tables.{Holds}
-use Rattle.lfg_chart.specs.Filling.{Rules, IsRule, IsLink, IsLast}
+use Rattle.lfg_chart.specs.Filling.{Rules}
 use Rattle.lfg_chart.specs.Numbers.{IsNumbered, IsNumberOf, IsLinkOf, AreRulesOf}
 use Rattle.lfg_chart.specs.Meaning.{IsTableOf, a_category, a_front, a_rest}
 use Rattle.lfg_chart.specs.Agenda as agenda
 use Rattle.lfg_chart.specs.Agenda.{KeptSpan, IsDaughter, IsDaughterAt, span}
-use Rattle.lfg_chart.specs.Points.{IsEdgeOf, AreEdges, IsPointAt, ArePoints}
-use Rattle.lfg_chart.specs.Nexts.{NextsOf, NextsAt, AreNexts, IsNextVia}
+use Rattle.lfg_chart.specs.Points.{AreEdges, ArePoints}
+use Rattle.lfg_chart.specs.Nexts.{NextsOf, IsNextVia}
 use Rattle.lfg_chart.proofs.Meaning as meaning
 use Rattle.lfg_chart.proofs.Meaning.{number_some, number_none}
 use Rattle.lfg_chart.proofs.LinkLaws.{ends_within, follows_from}
 use Rattle.lfg_chart.proofs.RuleLaws.{rule_for}
-use Rattle.lfg_chart.proofs.Searching.{In_get, get_In, one_at}
+use Rattle.lfg_chart.proofs.Searching.{one_at}
 
 module _ (g : Grammar) (s : List TokenForms) (fill : IsFillable g) (rules : Rules) (numbered : IsNumbered g) (are : AreRulesOf g.cats g.rules rules) (table : Table) (of : IsTableOf g s table) where
   whole_means : (n : ℕ) (cat : Name) (i j : ℕ) → slice_get g.cats n ≡ Some cat → j < table.size → Holds table (Whole n) i j ↔ Derivable g s (edge cat i j)

@@ -1,22 +1,22 @@
 -- The links and ends of a rule, as they are collected.
-use Rattle.std.proofs.Common.{◌≡◌, ℕ, zero, suc, ◌+◌, ◌-◌, ◌*◌, ◌<◌, ◌≤◌, ◌⊎◌, inl, inr, Bool, true, Option, Some, None, List, [], ◌∷◌, ◌++◌, length, get_or, refl, sym, ap, subst, ◌∙◌, arith, IsTrue}
-use Rattle.std.specs.Prelude.{◌↔◌, slice_get}
+use Rattle.std.proofs.Common.{◌≡◌, ℕ, zero, suc, ◌+◌, ◌-◌, ◌<◌, ◌≤◌, ◌⊎◌, inl, inr, true, Option, Some, None, List, [], ◌∷◌, ◌++◌, length, get_or, refl, sym, ap, subst, ◌∙◌, arith}
+use Rattle.std.specs.Prelude.{◌↔◌}
 use Rattle.std.proofs.lemmas.Option.{slice_get-get_or, slice_get_within}
 use Rattle.lfg_terms.specs.declared.grammar.Item.{Item}
 use Rattle.lfg_terms.specs.declared.grammar.Graph.{Graph}
 use Rattle.lfg_terms.specs.declared.grammar.Rule.{Rule}
 use Rattle.lfg_model.specs.Derive.{item_at, CanFollow, CanEnd}
 use Rattle.lfg_model.specs.Graphs.{IsGraph}
-use Rattle.lfg_model.specs.Lists.{In, here, later}
+use Rattle.lfg_model.specs.Lists.{In}
 use Rattle.lfg_model.specs.Terms.{Name}
-use Rattle.lfg_model.proofs.ListLaws.{In-nil, In-at, In-push_cases, In-append_left, In-append_right, In-push}
+use Rattle.lfg_model.proofs.ListLaws.{In-at, In-push_cases, In-append_left, In-push}
 use Rattle.lfg_chart.specs.declared.links.Link.{Link}
-use Rattle.lfg_chart.specs.Numbers.{IsRuleOver, IsNumberOf, IsLinkOf}
+use Rattle.lfg_chart.specs.Numbers.{IsNumberOf, IsLinkOf}
 use Rattle.std.specs.List.Sorted.{IsStrictlySortedBy}
 use Rattle.std.proofs.lemmas.Cmp.{nat_list_cmp_total}
 use Rattle.lfg_terms.specs.Order.{name_cmp}
 use Rattle.lfg_model.proofs.OneTree.{same_some}
-use Rattle.lfg_chart.proofs.Searching.{get_In, one_place, one_at}
+use Rattle.lfg_chart.proofs.Searching.{get_In, one_place}
 
 -- what follows an item is an item
 pub follows_within : (g : Graph) (q p : ℕ) → IsGraph g → CanFollow g q p → (1 ≤ p) × (p ≤ g.size)

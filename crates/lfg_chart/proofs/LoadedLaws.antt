@@ -1,22 +1,19 @@
 -- What a loaded grammar has of what a chart needs, and the bound on its steps.
-use Rattle.std.proofs.Common.{◌≡◌, ℕ, zero, suc, ◌+◌, ◌*◌, ◌^◌, ◌<◌, ◌≤◌, Option, Some, None, List, [], ◌∷◌, length, refl, sym, ap, ◌∙◌, arith}
-use Rattle.std.specs.Prelude.{slice_get}
+use Rattle.std.proofs.Common.{◌≡◌, ℕ, zero, suc, ◌+◌, ◌*◌, ◌^◌, ◌<◌, ◌≤◌, Some, None, List, refl, ap, ◌∙◌, arith}
 use Rattle.std.proofs.Math.Nat.{mul-le-mul, mul-le-mul_left, one-le-pow, pow-succ', pow-zero, mul-one}
 use Rattle.lfg_terms.specs.declared.grammar.Item.{Item}
-use Rattle.lfg_terms.specs.declared.grammar.Lex.{Lex}
-use Rattle.lfg_terms.specs.declared.grammar.Rule.{Rule}
 use Rattle.lfg_terms.specs.declared.grammar.Grammar.{Grammar}
-use Rattle.lfg_model.specs.Derive.{item_at, rule_of}
+use Rattle.lfg_model.specs.Derive.{item_at}
 use Rattle.lfg_model.specs.Fillable.{HasBranches, SchemaHasBranches, BranchesHaveBranches}
 use Rattle.lfg_model.specs.Kept.{IsFillable}
 use Rattle.lfg_model.specs.Lists.{In}
 use Rattle.lfg_model.specs.Loaded.{Loaded, IsSound, IsSoundSchema, AreSound, HasBranch}
-use Rattle.lfg_model.specs.Loads.{IsCategoryOf, root, head, daughter, of_word}
+use Rattle.lfg_model.specs.Loads.{root, head, daughter, of_word}
 use Rattle.lfg_model.specs.Places.{branch_count}
-use Rattle.lfg_model.specs.Terms.{Name, same_name, annotation_of, Schema, define, constrain, exists, member, mark, either, maybe, call, Annotation, no_schema, and_schema, Branches, no_branch, or_branch}
+use Rattle.lfg_model.specs.Terms.{same_name, annotation_of, Schema, define, constrain, exists, member, mark, either, maybe, call, Annotation, no_schema, and_schema, Branches, no_branch, or_branch}
 use Rattle.lfg_model.proofs.FillableLaws.{fillable_without_empty_disjunctions}
 use Rattle.lfg_model.proofs.ManWalksTree.{In_from_find}
-use Rattle.lfg_chart.specs.Numbers.{IsNumbered, IsRuleOver}
+use Rattle.lfg_chart.specs.Numbers.{IsNumbered}
 use Rattle.lfg_chart.proofs.Searching.{get_In}
 
 -- a sound annotation has branches in each disjunction

@@ -1,20 +1,18 @@
 -- What the rows of a filled table mean.
-use Rattle.std.proofs.Common.{◌≡◌, ℕ, zero, suc, ◌+◌, ◌<◌, ◌≤◌, ◌⊎◌, inl, inr, Option, Some, None, List, [], ◌∷◌, length, refl, sym, ap, subst, ◌∙◌, arith}
+use Rattle.std.proofs.Common.{◌≡◌, ℕ, zero, suc, ◌+◌, ◌<◌, ◌≤◌, Option, Some, None, List, length, refl, sym, ap, subst, ◌∙◌, arith}
 use Rattle.std.specs.Prelude.{◌↔◌, slice_get}
 use Rattle.std.proofs.lemmas.Option.{slice_get_within}
 use Rattle.lfg_terms.specs.declared.grammar.Item.{Item}
-use Rattle.lfg_terms.specs.declared.grammar.Lex.{Lex}
 use Rattle.lfg_terms.specs.declared.grammar.Rule.{Rule}
 use Rattle.lfg_terms.specs.declared.grammar.Grammar.{Grammar}
 use Rattle.lfg_terms.specs.declared.tree.TokenForms.{TokenForms}
 use Rattle.lfg_model.specs.Terms.{Name, same_name}
 use Rattle.lfg_model.specs.Lists.{In}
-use Rattle.lfg_model.specs.Derive.{rule_of, item_at, CanFollow, CanEnd, edge}
-use Rattle.lfg_model.specs.Grounded.{IsEmptyItem, IsItemOf}
+use Rattle.lfg_model.specs.Derive.{rule_of, item_at, CanEnd, edge}
+use Rattle.lfg_model.specs.Grounded.{IsItemOf}
 use Rattle.lfg_model.specs.Kept.{IsEntry}
 use Rattle.lfg_model.specs.ChartRows.{Label, OfCategory, ReadUpTo, LeftBehind, ChartRow, word, read_all, read_none, read_empty, read_daughter, left_none, left_empty, left_daughter}
 use Rattle.lfg_model.proofs.RowLaws.{row_spans}
-use Rattle.lfg_model.proofs.OneTree.{same_some}
 use Rattle.lfg_model.proofs.ManWalksTree.{In_from_find}
 use Rattle.lfg_chart.specs.declared.links.Link.{Link}
 use Rattle.lfg_chart.specs.declared.links.RuleLinks.{RuleLinks}
@@ -22,8 +20,8 @@ use Rattle.lfg_chart.specs.declared.table.Row.{Row}
 use Rattle.lfg_chart.specs.declared.table.Row.TheVariants.{Whole, Read, Left}
 use Rattle.lfg_chart.specs.declared.table.Table.{Table}
 use Rattle.lfg_chart.specs.Tables.{Holds}
-use Rattle.lfg_chart.specs.Filling.{Rules, IsRule, IsLink, IsLast, IsStart, IsCopy, IsJoin, Filled, first, started, copied, joined, nothing_read, nothing_left, all_read, empty_read, empty_left, read_over, left_over}
-use Rattle.lfg_chart.specs.Numbers.{IsNumbered, IsRuleOver, IsNumberOf, IsLinkOf, AreLinksOf, AreRulesOf, rule_in}
+use Rattle.lfg_chart.specs.Filling.{Rules, IsRule, IsLink, IsLast, Filled, first, started, copied, joined, nothing_read, nothing_left, all_read, empty_read, empty_left, read_over, left_over}
+use Rattle.lfg_chart.specs.Numbers.{IsNumbered, IsRuleOver, IsNumberOf, IsLinkOf, AreLinksOf, AreRulesOf}
 use Rattle.lfg_chart.specs.Words.{IsWord, AreWords}
 use Rattle.lfg_chart.specs.Meaning.{IsAbout, a_category, a_front, a_rest, IsTableOf}
 use Rattle.lfg_chart.proofs.RuleLaws.{rule_at, rule_for}

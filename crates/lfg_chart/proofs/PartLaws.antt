@@ -5,12 +5,10 @@ use Rattle.std.proofs.lemmas.List.{length-append}
 use Rattle.std.proofs.lemmas.Nat.{mul-le}
 use Rattle.lfg_chart.specs.declared.places.Places.{Places}
 use Rattle.lfg_chart.specs.declared.links.RuleLinks.{RuleLinks}
-use Rattle.lfg_chart.specs.declared.table.Row.{Row}
-use Rattle.lfg_chart.specs.declared.table.Row.TheVariants.{Whole, Read, Left}
 use Rattle.lfg_chart.specs.declared.table.Table.{Table}
 use Rattle.lfg_chart.specs.Places.{Has}
 use Rattle.lfg_chart.specs.Cells.{HasIn, HasAt, IsCell, Grown, AreCleared}
-use Rattle.lfg_chart.specs.Tables.{GrownBy, HasParts, HasRows, IsRow}
+use Rattle.lfg_chart.specs.Tables.{GrownBy, HasParts, HasRows}
 use Rattle.lfg_chart.proofs.CellLaws.{cell_within}
 use Rattle.lfg_chart.proofs.FillLaws.{item_is}
 

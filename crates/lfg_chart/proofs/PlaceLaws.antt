@@ -1,12 +1,11 @@
 -- Sets of places as bits.
-use Rattle.std.proofs.Common.{◌≡◌, ℕ, zero, suc, ◌+◌, ◌*◌, ◌/◌, ◌%◌, ◌^◌, ◌<◌, ◌≤◌, ◌⊎◌, inl, inr, refl, sym, ◌∙◌, ap, subst, arith, IsTrue, nat_eq, max}
+use Rattle.std.proofs.Common.{◌≡◌, ℕ, ◌*◌, ◌/◌, ◌%◌, ◌^◌, ◌<◌, ◌⊎◌, inl, inr, arith, IsTrue, nat_eq, max}
 use Rattle.std.specs.Prelude.{◌↔◌}
 use Rattle.std.specs.Int.{bit_at}
 use Rattle.std.specs.Int.Bits.{bit_or, bit_and}
 use Rattle.std.proofs.lemmas.Bool.{cases_eq}
 use Rattle.std.proofs.lemmas.Nat.Bits.{bit_at-zero, bit_at-pow_same, bit_at-pow_other, bit_at_or, bit_at-lt, shr_and_one}
 use Rattle.std.proofs.lemmas.Nat.{one_shl}
-use Rattle.lfg_chart.specs.declared.places.Places.{Places}
 use Rattle.lfg_chart.specs.Places.{Has}
 
 pub none_has : (k : ℕ) → Has (record { bits = 0 }) k → ⊥

@@ -1,21 +1,16 @@
 -- An empty table is ready for the rules of a grammar.
-use Rattle.std.proofs.Common.{◌≡◌, ℕ, ◌+◌, ◌<◌, ◌≤◌, Option, Some, None, List, length, refl, sym, ap, subst, ◌∙◌, arith}
-use Rattle.std.specs.Prelude.{slice_get}
+use Rattle.std.proofs.Common.{◌≡◌, ℕ, ◌≤◌, Option, Some, subst, arith}
 use Rattle.std.proofs.lemmas.Option.{slice_get_within}
-use Rattle.std.proofs.lemmas.Cmp.{nat_list_cmp_total}
-use Rattle.lfg_terms.specs.declared.grammar.Rule.{Rule}
 use Rattle.lfg_terms.specs.declared.grammar.Grammar.{Grammar}
-use Rattle.lfg_model.specs.Lists.{In}
-use Rattle.lfg_model.specs.Terms.{Name, same_name}
+use Rattle.lfg_model.specs.Terms.{same_name}
 use Rattle.lfg_model.proofs.ManWalksTree.{In_from_find}
 use Rattle.lfg_chart.specs.declared.links.Link.{Link}
-use Rattle.lfg_chart.specs.declared.links.RuleLinks.{RuleLinks}
 use Rattle.lfg_chart.specs.declared.table.Row.{Row}
 use Rattle.lfg_chart.specs.declared.table.Row.TheVariants.{Whole, Read, Left}
 use Rattle.lfg_chart.specs.declared.table.Table.{Table}
 use Rattle.lfg_chart.specs.Tables.{IsRow, HasRows}
-use Rattle.lfg_chart.specs.Filling.{Rules, IsRule, IsLink, IsLast, IsStart, IsCopy, IsJoin, nothing_read, nothing_left, all_read, empty_read, empty_left, read_over, left_over, Ready}
-use Rattle.lfg_chart.specs.Numbers.{IsNumbered, IsNumberOf, IsLinkOf, AreLinksOf, AreRulesOf}
+use Rattle.lfg_chart.specs.Filling.{Rules, IsLink, IsLast, IsStart, IsCopy, IsJoin, nothing_read, nothing_left, all_read, empty_read, empty_left, read_over, left_over, Ready}
+use Rattle.lfg_chart.specs.Numbers.{IsNumbered, IsNumberOf, IsLinkOf, AreRulesOf}
 use Rattle.lfg_chart.proofs.LinkLaws.{follows_within, follows_from, ends_within}
 use Rattle.lfg_chart.proofs.RuleLaws.{rule_at}
 use Rattle.lfg_chart.proofs.Meaning.{number_some}

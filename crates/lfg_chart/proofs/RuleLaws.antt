@@ -1,27 +1,21 @@
 -- The rules of a grammar by the numbers of their categories.
-use Rattle.std.proofs.Common.{◌≡◌, ℕ, zero, suc, ◌+◌, ◌-◌, ◌*◌, ◌<◌, ◌≤◌, ◌⊎◌, inl, inr, Bool, true, false, cond, Option, Some, None, List, [], ◌∷◌, ◌++◌, length, get_or, drop, refl, sym, ap, subst, ◌∙◌, arith}
-use Rattle.std.specs.Prelude.{◌↔◌, slice_get}
-use Rattle.std.specs.List.{sum_by, find}
+use Rattle.std.proofs.Common.{◌≡◌, ℕ, zero, suc, ◌+◌, ◌-◌, ◌*◌, ◌<◌, ◌≤◌, Bool, true, false, Option, Some, None, List, [], ◌∷◌, length, get_or, drop, refl, sym, ap, subst, ◌∙◌, arith}
+use Rattle.std.specs.Prelude.{slice_get}
 use Rattle.std.specs.List.Sorted.{IsStrictlySortedBy}
 use Rattle.std.proofs.Math.ListN.{set}
 use Rattle.std.proofs.Math.Nat.{mul-le-mul}
-use Rattle.std.proofs.lemmas.Bool.{cases_eq}
 use Rattle.std.proofs.lemmas.Cmp.{nat_list_cmp_total}
 use Rattle.std.proofs.lemmas.List.{length-set}
 use Rattle.std.proofs.lemmas.List.Sums.{sum_by-cons}
 use Rattle.std.proofs.lemmas.Option.{slice_get_within, slice_get-get_or}
 use Rattle.std.specs.Cmp.Lexicographic.{same_text, bytes_decides}
 use Rattle.lfg_terms.specs.Order.{name_cmp}
-use Rattle.lfg_terms.specs.declared.grammar.Item.{Item}
 use Rattle.lfg_terms.specs.declared.grammar.Rule.{Rule}
-use Rattle.lfg_model.specs.Derive.{CanFollow}
-use Rattle.lfg_model.specs.Lists.{In}
 use Rattle.lfg_model.specs.Terms.{Name, same_name}
 use Rattle.lfg_model.proofs.OneTree.{same_some}
-use Rattle.lfg_chart.specs.declared.links.Link.{Link}
 use Rattle.lfg_chart.specs.declared.links.RuleLinks.{RuleLinks}
 use Rattle.lfg_chart.specs.Filling.{Rules, IsRule}
-use Rattle.lfg_chart.specs.Numbers.{IsRuleOver, IsNumberOf, IsLinkOf, AreLinksOf, IsKeptFor, rule_in, AreRulesOf, items_in}
+use Rattle.lfg_chart.specs.Numbers.{AreLinksOf, IsKeptFor, rule_in, AreRulesOf, items_in}
 use Rattle.lfg_chart.proofs.Searching.{one_place}
 
 -- what is at a place of a list that was written to

@@ -1,13 +1,13 @@
 -- What is put into a table, by its cells.
-use Rattle.std.proofs.Common.{◌≡◌, ℕ, ◌+◌, ◌*◌, ◌<◌, ◌⊎◌, inl, inr, Bool, false, refl, sym, ◌∙◌, subst, ap, arith}
+use Rattle.std.proofs.Common.{◌≡◌, ℕ, ◌+◌, ◌*◌, ◌<◌, ◌⊎◌, inl, inr, Bool, false, sym, ◌∙◌, ap, arith}
 use Rattle.std.proofs.lemmas.Nat.{same_from_place}
 use Rattle.lfg_chart.specs.declared.places.Places.{Places}
 use Rattle.lfg_chart.specs.declared.table.Row.{Row}
 use Rattle.lfg_chart.specs.declared.table.Row.TheVariants.{Whole, Read, Left}
 use Rattle.lfg_chart.specs.declared.table.Table.{Table}
 use Rattle.lfg_chart.specs.Places.{Has}
-use Rattle.lfg_chart.specs.Cells.{HasAt, IsCell, Added, part_of, item_of}
-use Rattle.lfg_chart.specs.Tables.{IsRow, Holds, Step, Adds}
+use Rattle.lfg_chart.specs.Cells.{HasAt, Added, part_of, item_of}
+use Rattle.lfg_chart.specs.Tables.{Holds, Adds}
 
 -- rows of one place are one
 one_row : (r s : Row) → part_of r ≡ part_of s → item_of r ≡ item_of s → r ≡ s

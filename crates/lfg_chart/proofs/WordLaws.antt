@@ -1,5 +1,5 @@
 -- Words that are put into a table.
-use Rattle.std.proofs.Common.{◌≡◌, ℕ, ◌+◌, ◌<◌, ◌≤◌, ◌⊎◌, inl, inr, Bool, true, false, IsTrue, Option, Some, None, List, [], ◌∷◌, ◌++◌, length, get_or, take, refl, sym, ap, subst, ◌∙◌, arith, rules, ◌||◌}
+use Rattle.std.proofs.Common.{◌≡◌, ℕ, ◌+◌, ◌<◌, ◌⊎◌, inl, inr, Bool, true, false, IsTrue, Option, Some, List, [], ◌∷◌, ◌++◌, length, get_or, take, refl, sym, ap, subst, ◌∙◌, arith, rules, ◌||◌}
 use Rattle.std.specs.Prelude.{◌↔◌, slice_get}
 use Rattle.lfg_terms.specs.declared.grammar.Lex.{Lex}
 use Rattle.lfg_terms.specs.declared.tree.TokenForms.{TokenForms}
@@ -21,7 +21,7 @@ use Rattle.lfg_chart.specs.declared.table.Table.{Table}
 use Rattle.lfg_chart.specs.Places.{Has}
 use Rattle.lfg_chart.specs.Tables.{Holds, Step, Adds, HasRows}
 use Rattle.lfg_chart.specs.Words.{Extends, IsWord, IsWordAt, AreWords}
-use Rattle.lfg_chart.proofs.Searching.{one_place, one_at}
+use Rattle.lfg_chart.proofs.Searching.{one_place}
 use Rattle.lfg_chart.proofs.FillLaws.{item_there}
 
 pub rows_kept : (rules : List (Option RuleLinks)) (old new : Table) (changed : Bool) → Step old new changed → HasRows rules old → HasRows rules new

@@ -6,10 +6,9 @@ use Rattle.lfg_chart.specs.declared.kept.Agenda.{Agenda}
 use Rattle.lfg_chart.specs.declared.kept.Span.{Span}
 use Rattle.lfg_chart.specs.declared.links.Link.{Link}
 use Rattle.lfg_chart.specs.declared.links.RuleLinks.{RuleLinks}
-use Rattle.lfg_chart.specs.declared.table.Row.{Row}
 use Rattle.lfg_chart.specs.declared.table.Row.TheVariants.{Whole, Read, Left}
 use Rattle.lfg_chart.specs.declared.table.Table.{Table}
-use Rattle.lfg_chart.specs.Filling.{Rules, IsRule, IsLink}
+use Rattle.lfg_chart.specs.Filling.{Rules, IsRule}
 use Rattle.lfg_chart.specs.Tables.{Holds, IsRow, room_in}
 
 -- the edge of a category from a place to a place

@@ -1,5 +1,5 @@
 -- A chart as it is kept, and as contracts see it.
-use Rattle.std.specs.Prelude.{◌≡◌, ℕ, List, [], ◌∷◌, length}
+use Rattle.std.specs.Prelude.{◌≡◌, List, [], ◌∷◌, length}
 use Rattle.std.specs.List.Sorted.{IsStrictlySortedBy}
 use Rattle.lfg_terms.specs.Order.{edge_cmp}
 use Rattle.lfg_terms.specs.declared.node.Edge.{Edge}

@@ -1,6 +1,6 @@
 -- The categories of a grammar by their places among all categories, counted from 0, and the links of
 -- a rule in these numbers.
-use Rattle.std.specs.Prelude.{◌≡◌, ◌↔◌, ◌⊎◌, ℕ, ◌≤◌, Option, Some, None, List, length, slice_get, find}
+use Rattle.std.specs.Prelude.{◌≡◌, ◌↔◌, ℕ, Option, Some, None, List, length, slice_get, find}
 use Rattle.std.specs.List.{sum_by}
 use Rattle.std.specs.List.Sorted.{IsStrictlySortedBy}
 use Rattle.lfg_terms.specs.Order.{name_cmp}
@@ -8,13 +8,13 @@ use Rattle.lfg_terms.specs.declared.grammar.Item.{Item}
 use Rattle.lfg_terms.specs.declared.grammar.Rule.{Rule}
 use Rattle.lfg_terms.specs.declared.grammar.Lex.{Lex}
 use Rattle.lfg_terms.specs.declared.grammar.Grammar.{Grammar}
-use Rattle.lfg_model.specs.Derive.{item_at, rule_of, CanFollow, CanEnd}
+use Rattle.lfg_model.specs.Derive.{item_at, CanFollow, CanEnd}
 use Rattle.lfg_model.specs.Graphs.{IsGraph}
 use Rattle.lfg_model.specs.Lists.{In}
 use Rattle.lfg_model.specs.Terms.{Name, same_name}
 use Rattle.lfg_chart.specs.declared.links.Link.{Link}
 use Rattle.lfg_chart.specs.declared.links.RuleLinks.{RuleLinks}
-use Rattle.lfg_chart.specs.Filling.{Rules, IsRule}
+use Rattle.lfg_chart.specs.Filling.{Rules}
 
 -- the categories ascend, and those of a rule are among them; its graph is one of its items
 pub record IsRuleOver (cats : List Name) (rule : Rule) : Type 0 where

@@ -6,7 +6,7 @@ use Rattle.lfg_model.specs.Lists.{In}
 use Rattle.lfg_model.specs.Terms.{Name}
 use Rattle.lfg_chart.specs.declared.kept.Span.{Span}
 use Rattle.lfg_chart.specs.declared.links.RuleLinks.{RuleLinks}
-use Rattle.lfg_chart.specs.declared.table.Row.TheVariants.{Whole, Read, Left}
+use Rattle.lfg_chart.specs.declared.table.Row.TheVariants.{Read, Left}
 use Rattle.lfg_chart.specs.declared.table.Table.{Table}
 use Rattle.lfg_chart.specs.Filling.{Rules, IsRule}
 use Rattle.lfg_chart.specs.Tables.{Holds}

@@ -7,7 +7,7 @@ use Rattle.lfg_model.specs.Terms.{Name}
 use Rattle.lfg_chart.specs.declared.table.Row.{Row}
 use Rattle.lfg_chart.specs.declared.table.Row.TheVariants.{Whole}
 use Rattle.lfg_chart.specs.declared.table.Table.{Table}
-use Rattle.lfg_chart.specs.Tables.{Holds, IsRow}
+use Rattle.lfg_chart.specs.Tables.{Holds}
 
 -- the table keeps its rows and places, and holds besides what it did exactly what has P
 pub record Extends (old new : Table) (P : Row → ℕ → ℕ → Type 0) : Type 0 where

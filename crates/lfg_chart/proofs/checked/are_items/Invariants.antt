@@ -1,4 +1,4 @@
-use Rattle.std.proofs.Common.{ℕ, ◌<◌, ◌≤◌, ◌+◌, ◌-◌, get_or}
+use Rattle.std.proofs.Common.{ℕ, ◌<◌, ◌≤◌, ◌-◌, get_or}
 use Rattle.lfg_chart.proofs.checked.are_items.Given as goal
 
 abbrev pub invariant-loop-i : goal.invariant-loop-i

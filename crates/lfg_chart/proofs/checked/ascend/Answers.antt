@@ -1,4 +1,4 @@
-use Rattle.std.proofs.Common.{◌≡◌, ◌≤◌, ◌<◌, length, arith, Less, Ordering, Equal, Greater, is_lt, true, false, sym, ◌∙◌, refl}
+use Rattle.std.proofs.Common.{◌≡◌, arith, Less, Ordering, Equal, Greater, is_lt, true, false, sym, ◌∙◌, refl}
 use Rattle.lfg_terms.specs.Order.{name_cmp}
 use Rattle.lfg_chart.proofs.CheckLaws.{names_more, names_ascend}
 use Rattle.lfg_chart.proofs.checked.ascend.Goals as goal

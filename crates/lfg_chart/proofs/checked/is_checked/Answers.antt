@@ -1,6 +1,5 @@
-use Rattle.std.proofs.Common.{◌≡◌, List, ℕ, [], arith, length, refl, sym, subst, take, ◌∙◌, ap}
+use Rattle.std.proofs.Common.{◌≡◌, List, [], arith, sym, subst, take, ◌∙◌}
 use Rattle.lfg_model.specs.Lists.{In}
-use Rattle.lfg_model.specs.Terms.{Name}
 use Rattle.lfg_terms.specs.declared.grammar.Lex.{Lex}
 use Rattle.lfg_terms.specs.declared.grammar.Rule.{Rule}
 use Rattle.lfg_chart.specs.Checked.{IsPlainRule}

@@ -1,4 +1,4 @@
-use Rattle.std.proofs.Common.{List, Bool, ℕ, ◌≡◌, arith, refl, sym, subst, take, length, ap, ◌∙◌}
+use Rattle.std.proofs.Common.{List, ℕ, ◌≡◌, arith, sym, subst, take, length, ap, ◌∙◌}
 use Rattle.lfg_model.specs.Graphs.{AreItems}
 use Rattle.lfg_chart.proofs.CellLaws.{true_is}
 use Rattle.lfg_model.specs.Lists.{In}

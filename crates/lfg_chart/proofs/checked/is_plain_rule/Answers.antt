@@ -1,4 +1,4 @@
-use Rattle.std.proofs.Common.{◌≡◌, List, ℕ, arith, length, refl, sym, subst, take, ◌∙◌, ap}
+use Rattle.std.proofs.Common.{◌≡◌, List, arith, length, subst, take, ◌∙◌, ap}
 use Rattle.lfg_model.specs.Lists.{In}
 use Rattle.lfg_terms.specs.declared.grammar.Item.{Item}
 use Rattle.lfg_chart.specs.Checked.{IsPlainItem}

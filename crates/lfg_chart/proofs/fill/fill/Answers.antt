@@ -1,4 +1,4 @@
-use Rattle.std.proofs.Common.{refl, ◌∙◌, sym, subst}
+use Rattle.std.proofs.Common.{refl, ◌∙◌}
 use Rattle.lfg_chart.specs.Filling.{first}
 use Rattle.lfg_chart.proofs.FillLaws.{sound_trans, all_filled}
 use Rattle.lfg_chart.proofs.fill.fill.Goals as goal

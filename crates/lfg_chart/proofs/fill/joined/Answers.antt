@@ -1,10 +1,4 @@
-use Rattle.std.proofs.Common.{ℕ, ◌<◌, ◌+◌, ◌⊎◌, inl, inr, subst, sym, arith, ◌≡◌}
-use Rattle.std.specs.Prelude.{◌↔◌}
-use Rattle.lfg_chart.specs.declared.places.Places.{Places}
-use Rattle.lfg_chart.specs.declared.table.Row.{Row}
-use Rattle.lfg_chart.specs.declared.table.Table.{Table}
-use Rattle.lfg_chart.specs.Places.{Has}
-use Rattle.lfg_chart.specs.Tables.{Holds}
+use Rattle.std.proofs.Common.{◌<◌, arith}
 use Rattle.lfg_chart.proofs.FillLaws.{middles_more, middles_same}
 use Rattle.lfg_chart.proofs.CellLaws.{true_is, false_not}
 use Rattle.lfg_chart.proofs.fill.joined.Goals as goal

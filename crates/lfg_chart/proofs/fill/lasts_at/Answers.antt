@@ -1,4 +1,4 @@
-use Rattle.std.proofs.Common.{◌<◌, ℕ, None, length, arith}
+use Rattle.std.proofs.Common.{◌<◌, length, arith}
 use Rattle.lfg_model.proofs.ListLaws.{In-nil, In-at}
 use Rattle.lfg_chart.proofs.FillLaws.{turn_same, turn_trans, lasts_more}
 use Rattle.lfg_chart.proofs.fill.lasts_at.Goals as goal

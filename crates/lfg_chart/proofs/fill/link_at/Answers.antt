@@ -1,7 +1,5 @@
-use Rattle.std.proofs.Common.{Some, None}
-use Rattle.lfg_chart.specs.Filling.{MeetsCopy, MeetsJoin, empty_read, empty_left, read_over, left_over}
-use Rattle.lfg_chart.specs.declared.table.Row.TheVariants.{Whole, Read, Left}
-use Rattle.lfg_chart.proofs.FillLaws.{turn_trans, then_met, both_false}
+use Rattle.lfg_chart.specs.Filling.{empty_read, empty_left, read_over, left_over}
+use Rattle.lfg_chart.proofs.FillLaws.{turn_trans}
 use Rattle.lfg_chart.proofs.fill.link_at.Goals as goal
 
 pub copy_at-read-requires-clause-of : goal.copy_at-read-requires-clause-of

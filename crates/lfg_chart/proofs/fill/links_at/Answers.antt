@@ -1,5 +1,4 @@
-use Rattle.std.proofs.Common.{◌<◌, ℕ, None, length, arith}
-use Rattle.lfg_chart.specs.declared.links.Link.{Link}
+use Rattle.std.proofs.Common.{◌<◌, None, length, arith}
 use Rattle.lfg_model.proofs.ListLaws.{In-nil, In-at}
 use Rattle.lfg_chart.proofs.FillLaws.{turn_same, turn_trans, links_more}
 use Rattle.lfg_chart.proofs.fill.links_at.Goals as goal

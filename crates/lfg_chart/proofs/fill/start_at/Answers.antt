@@ -1,4 +1,4 @@
-use Rattle.std.proofs.Common.{ℕ, subst, sym, refl, arith}
+use Rattle.std.proofs.Common.{ℕ, subst, sym, refl}
 use Rattle.lfg_chart.specs.Filling.{Filled, started}
 use Rattle.lfg_chart.proofs.FillLaws.{turn_add, met_add}
 use Rattle.lfg_chart.proofs.fill.start_at.Goals as goal

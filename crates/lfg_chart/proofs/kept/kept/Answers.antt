@@ -1,10 +1,9 @@
-use Rattle.std.proofs.Common.{arith, refl, ◌≡◌, ◌<◌, ◌≤◌, ◌-◌, ℕ, length, Some, subst, sym, ap, ◌∙◌, get_or}
+use Rattle.std.proofs.Common.{arith, ◌≡◌, ◌<◌, ◌≤◌, ◌-◌, length, Some}
 use Rattle.std.specs.Prelude.{slice_get}
 use Rattle.lfg_chart.specs.declared.kept.Agenda.{Agenda}
-use Rattle.lfg_chart.specs.declared.kept.Span.{Span}
 use Rattle.lfg_chart.specs.declared.table.Row.TheVariants.{Whole}
 use Rattle.lfg_chart.specs.Tables.{Holds}
-use Rattle.lfg_chart.specs.Agenda.{AreClosed, KeptSpan, IsAgenda}
+use Rattle.lfg_chart.specs.Agenda.{AreClosed, IsAgenda}
 use Rattle.lfg_chart.proofs.AgendaLaws.{agenda_start, closed_none, closed_root, closed_more, closed_all, kept_holds}
 use Rattle.lfg_chart.proofs.CellLaws.{true_is, false_not}
 use Rattle.lfg_chart.proofs.FillLaws.{item_there}

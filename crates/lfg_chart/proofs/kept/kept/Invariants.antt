@@ -1,7 +1,4 @@
-use Rattle.std.proofs.Common.{◌≡◌, ◌≤◌, ◌<◌, ◌+◌, ◌-◌, ℕ, Some, length}
-use Rattle.std.specs.Prelude.{slice_get}
-use Rattle.lfg_model.specs.Lists.{In}
-use Rattle.lfg_chart.specs.declared.kept.Span.{Span}
+use Rattle.std.proofs.Common.{◌+◌, ◌-◌, length}
 use Rattle.lfg_chart.specs.Agenda.{IsAgenda, AreClosed}
 use Rattle.lfg_chart.specs.Tables.{room_in}
 use Rattle.lfg_chart.proofs.kept.kept.Given as goal

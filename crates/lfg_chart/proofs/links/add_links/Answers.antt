@@ -1,4 +1,4 @@
-use Rattle.std.proofs.Common.{arith, ◌≤◌, ◌+◌, ◌∙◌, ap, refl, inl, inr, Vec, Global}
+use Rattle.std.proofs.Common.{arith, ◌+◌, ◌∙◌, ap, refl, inl, inr, Vec, Global}
 use Rattle.lfg_chart.specs.declared.links.Link.{Link}
 use Rattle.lfg_chart.specs.Numbers.{IsLinkOf}
 use Rattle.lfg_chart.proofs.LinkLaws.{links_more, links_same, one_link, follows_within}

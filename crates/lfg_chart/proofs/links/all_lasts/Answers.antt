@@ -1,4 +1,4 @@
-use Rattle.std.proofs.Common.{arith, ◌≤◌, ap, ◌∙◌, ℕ, Vec, Global}
+use Rattle.std.proofs.Common.{arith, ap, ◌∙◌, ℕ, Vec, Global}
 use Rattle.lfg_chart.proofs.LinkLaws.{lasts_more, lasts_same, ends_within}
 use Rattle.lfg_chart.proofs.CellLaws.{true_is, false_not}
 use Rattle.lfg_chart.proofs.links.all_lasts.Goals as goal

@@ -1,4 +1,4 @@
-use Rattle.std.proofs.Common.{arith, ◌≤◌, ◌<◌, ◌+◌, ◌*◌, ◌≡◌, ◌⊎◌, ℕ, inl, inr, [], List}
+use Rattle.std.proofs.Common.{arith, ◌≤◌, ◌+◌, ◌*◌, ◌≡◌, ◌⊎◌, ℕ, inl, inr}
 use Rattle.lfg_model.proofs.ListLaws.{In-nil}
 use Rattle.lfg_chart.proofs.LinkLaws.{follows_from}
 use Rattle.lfg_chart.proofs.links.all_links.Goals as goal

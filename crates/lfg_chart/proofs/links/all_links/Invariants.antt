@@ -1,4 +1,4 @@
-use Rattle.std.proofs.Common.{◌≡◌, ◌≤◌, ◌+◌, ◌*◌, ◌⊎◌}
+use Rattle.std.proofs.Common.{◌≤◌, ◌+◌, ◌*◌}
 use Rattle.std.specs.Prelude.{◌↔◌}
 use Rattle.lfg_model.specs.Lists.{In}
 use Rattle.lfg_chart.specs.declared.links.Link.{Link}

@@ -1,4 +1,4 @@
-use Rattle.std.proofs.Common.{arith, ◌≤◌, ◌-◌, length, ◌≡◌, Some, None, get_or, ap, ◌∙◌, refl, List}
+use Rattle.std.proofs.Common.{arith, ◌≤◌, ◌-◌, length, ◌≡◌, Some, None, get_or, ap, ◌∙◌, List}
 use Rattle.lfg_terms.specs.declared.grammar.Item.{Item}
 use Rattle.lfg_chart.proofs.LinkLaws.{item_there, number_there}
 use Rattle.lfg_chart.proofs.links.number_of_item.Goals as goal

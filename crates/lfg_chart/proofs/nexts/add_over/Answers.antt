@@ -1,15 +1,9 @@
-use Rattle.std.proofs.Common.{arith, refl, ◌<◌, ◌≤◌, ◌+◌, ◌≡◌, ◌⊎◌, inl, inr, ℕ, length, [], List, get_or, take, Some, None, Option, sym, subst, ap, ◌∙◌}
+use Rattle.std.proofs.Common.{arith, ◌≡◌, ℕ}
 use Rattle.lfg_model.specs.declared.point.Next.{Next}
 use Rattle.lfg_model.specs.declared.point.Next.TheVariants as next
-use Rattle.lfg_model.proofs.ListLaws.{In-at, In-nil}
-use Rattle.lfg_model.proofs.OneTree.{same_some}
-use Rattle.lfg_chart.specs.declared.links.Link.{Link}
-use Rattle.lfg_chart.specs.declared.links.RuleLinks.{RuleLinks}
-use Rattle.lfg_chart.specs.Filling.{IsRule, IsLink, read_over, left_over, empty_left}
-use Rattle.lfg_chart.specs.Nexts.{IsNextTo, IsNextAt, IsNextOver, IsNextVia, NextsAt, NextsBy, AreNexts, NextsOf}
+use Rattle.lfg_chart.specs.Nexts.{IsNextAt}
 use Rattle.lfg_chart.proofs.CellLaws.{true_is, false_not}
-use Rattle.lfg_chart.proofs.CollectLaws.{collects_none, collects_one, collects_along, counted_more, counted_same, listed_more, collected, take_whole}
-use Rattle.lfg_chart.proofs.FillLaws.{item_there, item_is}
+use Rattle.lfg_chart.proofs.CollectLaws.{collects_none, collects_one, counted_more, counted_same}
 use Rattle.lfg_chart.proofs.nexts.add_over.Goals as goal
 use Rattle.lfg_chart.proofs.nexts.add_over.Goals.{then-has+then-has-2+in_ok-push, else-has, else-has-via-then-has+else-has-2, else-has-via-else-has}
 

@@ -1,15 +1,9 @@
-use Rattle.std.proofs.Common.{arith, refl, ◌<◌, ◌≤◌, ◌+◌, ◌≡◌, ℕ, length, [], List, get_or, take, Some, None, Option, sym, subst, ap, ◌∙◌}
+use Rattle.std.proofs.Common.{arith, ◌<◌, ◌≡◌, length, [], List, get_or, take, sym, subst}
 use Rattle.lfg_terms.specs.declared.node.Edge.{Edge}
-use Rattle.lfg_model.specs.declared.point.Point.{Point}
 use Rattle.lfg_model.proofs.ListLaws.{In-at, In-nil}
-use Rattle.lfg_model.proofs.OneTree.{same_some}
 use Rattle.lfg_chart.specs.declared.kept.Span.{Span}
-use Rattle.lfg_chart.specs.declared.links.RuleLinks.{RuleLinks}
-use Rattle.lfg_chart.specs.Filling.{IsRule}
-use Rattle.lfg_chart.specs.Points.{IsEdgeOf, Collects, AreEdges, IsPointAt, IsPointBehind, IsPointFrom, IsPointOf, ArePoints, SpanWithin}
-use Rattle.lfg_chart.proofs.CellLaws.{true_is, false_not}
-use Rattle.lfg_chart.proofs.CollectLaws.{collects_none, collects_one, collects_along, counted_more, counted_same, listed_more, collected, one_edge, one_point, points_more, points_first, take_whole}
-use Rattle.lfg_chart.proofs.FillLaws.{item_there, item_is}
+use Rattle.lfg_chart.specs.Points.{IsEdgeOf, Collects, AreEdges}
+use Rattle.lfg_chart.proofs.CollectLaws.{collects_none, collects_one, listed_more, collected, one_edge, take_whole}
 use Rattle.lfg_chart.proofs.points.edges_of.Goals as goal
 
 pub loop-span-init : goal.loop-span-init

@@ -1,10 +1,9 @@
-use Rattle.std.proofs.Common.{arith, ◌≤◌, ◌<◌, ◌+◌, ◌-◌, ◌*◌, ◌≡◌, ℕ, length, drop, get_or, List, sym, subst}
+use Rattle.std.proofs.Common.{arith, ◌<◌, ◌-◌, length, get_or, List, sym, subst}
 use Rattle.std.proofs.Math.Seq.{drop-length}
 use Rattle.std.proofs.lemmas.Option.{slice_get_within}
-use Rattle.lfg_model.specs.Lists.{In}
 use Rattle.lfg_model.proofs.ListLaws.{In-at}
 use Rattle.lfg_terms.specs.declared.grammar.Rule.{Rule}
-use Rattle.lfg_chart.specs.Numbers.{AreRulesOf, IsRuleOver, items_in}
+use Rattle.lfg_chart.specs.Numbers.{AreRulesOf, IsRuleOver}
 use Rattle.lfg_chart.proofs.RuleLaws.{rules_none, found_step, steps_step, steps_end}
 use Rattle.lfg_chart.proofs.rules.rules_of.Goals as goal
 

@@ -1,4 +1,4 @@
-use Rattle.std.proofs.Common.{◌≡◌, ◌+◌, Some, None, ◌∙◌, sym, ap, arith}
+use Rattle.std.proofs.Common.{◌≡◌, ◌+◌, Some, None, ◌∙◌, sym, ap}
 use Rattle.lfg_model.proofs.OneTree.{same_some}
 use Rattle.lfg_chart.specs.declared.links.RuleLinks.{RuleLinks}
 use Rattle.lfg_chart.proofs.PartLaws.{grown_by, HasItems}

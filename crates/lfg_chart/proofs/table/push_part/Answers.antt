@@ -1,4 +1,4 @@
-use Rattle.std.proofs.Common.{◌≡◌, ℕ, List, sym, subst, arith, ◌∙◌, replicate, length}
+use Rattle.std.proofs.Common.{◌≡◌, List, sym, subst, ◌∙◌, replicate}
 use Rattle.lfg_chart.specs.declared.places.Places.{Places}
 use Rattle.lfg_chart.specs.Cells.{HasIn}
 use Rattle.lfg_chart.proofs.PartLaws.{pushed, none_in}

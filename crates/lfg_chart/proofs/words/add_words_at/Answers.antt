@@ -1,4 +1,4 @@
-use Rattle.std.proofs.Common.{arith, length, ◌<◌, sym, subst, get_or}
+use Rattle.std.proofs.Common.{arith, length, ◌<◌, sym, subst}
 use Rattle.lfg_terms.specs.declared.grammar.Lex.{Lex}
 use Rattle.lfg_model.specs.Lists.{In}
 use Rattle.lfg_model.proofs.ListLaws.{In-at}

@@ -1,8 +1,7 @@
-use Rattle.std.proofs.Common.{Some, None, ap, sym, subst, ◌∙◌, ◌≡◌, List}
+use Rattle.std.proofs.Common.{Some, ap, sym, subst, ◌∙◌, ◌≡◌, List}
 use Rattle.lfg_model.proofs.OneTree.{same_some}
 use Rattle.lfg_chart.specs.declared.links.Link.{Link}
 use Rattle.lfg_chart.specs.declared.links.RuleLinks.{RuleLinks}
-use Rattle.lfg_chart.specs.declared.kept.Span.{Span}
 use Rattle.lfg_chart.specs.Agenda.{IsDaughterBy, IsDaughter}
 use Rattle.lfg_chart.specs.Filling.{IsRule}
 use Rattle.lfg_chart.proofs.AgendaLaws.{gathers_along, gathers_none}

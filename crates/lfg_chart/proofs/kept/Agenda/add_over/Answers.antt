@@ -1,6 +1,6 @@
 use Rattle.std.proofs.Common.{arith, ℕ}
 use Rattle.lfg_chart.specs.declared.kept.Span.{Span}
-use Rattle.lfg_chart.specs.Filling.{read_over, left_over}
+use Rattle.lfg_chart.specs.Filling.{read_over}
 use Rattle.lfg_chart.specs.Agenda.{IsDaughterAt, IsDaughterFrom}
 use Rattle.lfg_chart.proofs.AgendaLaws.{gathers_none, places_more, places_same}
 use Rattle.lfg_chart.proofs.CellLaws.{true_is, false_not}

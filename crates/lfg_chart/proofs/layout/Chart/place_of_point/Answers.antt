@@ -1,19 +1,13 @@
-use Rattle.std.proofs.Common.{◌≡◌, ◌<◌, ◌≤◌, ℕ, ap, sym, subst, ◌∙◌, length, List, arith, Some, None, get_or}
-use Rattle.std.specs.Prelude.{slice_get, IfSome, IfNone}
+use Rattle.std.proofs.Common.{◌≡◌, ap, sym, subst, ◌∙◌, List, Some}
+use Rattle.std.specs.Prelude.{slice_get, IfSome}
 use Rattle.std.specs.Result.{result_ok}
 use Rattle.std.specs.List.Sorted.{IsStrictlySortedBy}
-use Rattle.lfg_terms.specs.Order.{edge_cmp}
-use Rattle.lfg_terms.specs.OrderLaws.{edge_cmp_total}
-use Rattle.lfg_terms.specs.declared.node.Edge.{Edge}
-use Rattle.lfg_terms.proofs.Ties.{edge_ties}
-use Rattle.lfg_model.specs.Charts.{points_of, nexts_at}
-use Rattle.lfg_model.specs.Lists.{In}
+use Rattle.lfg_model.specs.Charts.{points_of}
 use Rattle.lfg_model.specs.Points.{point_cmp, point_cmp_total}
-use Rattle.lfg_model.specs.declared.point.Next.{Next}
 use Rattle.lfg_model.specs.declared.point.Point.{Point}
 use Rattle.lfg_model.proofs.PointTies.{point_ties}
-use Rattle.lfg_chart.specs.Chart.{forks_of, ChartForm}
-use Rattle.lfg_chart.proofs.ForkLaws.{forks_points, forks_length, fork_at, nexts_there, nexts_absent}
+use Rattle.lfg_chart.specs.Chart.{ChartForm}
+use Rattle.lfg_chart.proofs.ForkLaws.{forks_points}
 use Rattle.lfg_chart.proofs.Searching.{place_found, place_missing, missing_along}
 use Rattle.lfg_chart.proofs.layout.Chart.place_of_point.Goals as goal
 

@@ -1,6 +1,6 @@
-use Rattle.std.proofs.Common.{◌≡◌, ℕ, ◌+◌, ◌*◌, ◌<◌, ◌^◌, ◌≤◌, length, arith, refl, sym, ap, ◌∙◌, get_or, true, false}
+use Rattle.std.proofs.Common.{◌≡◌, ◌+◌, ◌*◌, ◌<◌, arith, refl, ap, ◌∙◌, get_or, true, false}
 use Rattle.std.specs.Vec.{with_item}
-use Rattle.lfg_chart.specs.Cells.{IsCell, Added, part_of, item_of}
+use Rattle.lfg_chart.specs.Cells.{IsCell}
 use Rattle.lfg_chart.specs.declared.table.Table.{Table}
 use Rattle.lfg_chart.proofs.CellLaws.{cell_part, cell_within, cell_small, written, kept, one_item, grown, true_is, false_not}
 use Rattle.lfg_chart.proofs.TableLaws.{adds}

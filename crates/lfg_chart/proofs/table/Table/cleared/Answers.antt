@@ -1,6 +1,5 @@
-use Rattle.std.proofs.Common.{◌≡◌, ◌<◌, ◌≤◌, ◌+◌, ◌*◌, ◌∙◌, ap, sym, length, get_or, arith, List, Vec, Global}
+use Rattle.std.proofs.Common.{◌≡◌, ◌∙◌, ap, length, get_or, arith, List, Vec, Global}
 use Rattle.lfg_chart.specs.declared.places.Places.{Places}
-use Rattle.lfg_chart.specs.Cells.{IsCell, Grown, part_of, item_of}
 use Rattle.lfg_chart.proofs.CellLaws.{cell_part}
 use Rattle.lfg_chart.proofs.PartLaws.{cleared_more}
 use Rattle.lfg_chart.proofs.table.Table.cleared.Goals as goal

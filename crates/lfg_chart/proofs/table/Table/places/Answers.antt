@@ -1,5 +1,5 @@
-use Rattle.std.proofs.Common.{◌≡◌, ℕ, ◌+◌, ◌*◌, ◌<◌, ◌^◌, ◌≤◌, length, arith}
-use Rattle.lfg_chart.specs.Cells.{IsCell, part_of, item_of}
+use Rattle.std.proofs.Common.{◌+◌, ◌*◌, arith}
+use Rattle.lfg_chart.specs.Cells.{IsCell}
 use Rattle.lfg_chart.proofs.CellLaws.{cell_part, cell_within, cell_small, cell_has}
 use Rattle.lfg_chart.proofs.table.Table.places.Goals as goal
 
