@@ -2,3 +2,4 @@ pub mod Fails
 pub mod Numbers
 pub mod Keys
 pub mod Loading
+pub mod ItemLaws

@@ -3,4 +3,6 @@
 #![tactic(auto)]
 
 mod annotations;
+mod items;
 mod settings;
+mod words;
