@@ -3,3 +3,5 @@ pub mod Numbers
 pub mod Keys
 pub mod Loading
 pub mod ItemLaws
+pub mod WordLaws
+pub mod HalfLaws

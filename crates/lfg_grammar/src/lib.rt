@@ -4,5 +4,6 @@
 
 mod annotations;
 mod items;
+mod rules;
 mod settings;
 mod words;
