@@ -3,4 +3,5 @@
 #![tactic(auto)]
 
 mod annotations;
+mod reach;
 mod settings;
