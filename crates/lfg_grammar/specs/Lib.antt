@@ -1,2 +1,3 @@
 pub mod Answers
 pub mod Reach
+pub mod OnlyDaughters

@@ -1,5 +1,5 @@
 -- Links between numbers, tables of them, and what they lead to.
-use Rattle.std.specs.Prelude.{◌≡◌, ◌↔◌, ◌⊎◌, ℕ, ◌<◌, Bool, List, Vec, length}
+use Rattle.std.specs.Prelude.{◌≡◌, ◌↔◌, ℕ, ◌<◌, Bool, true, false, List, Vec, length, slice_index_or}
 use Rattle.std.specs.Global.{Global}
 use Rattle.lfg_model.specs.Lists.{In}
 use Rattle.lfg_rulegraph.specs.Followers.{IsAt}
@@ -22,6 +22,11 @@ pub record IsTableOf (links : List Link) (next : List (Vec ℕ Global)) : Type 0
 pub data IsReached (next : List (Vec ℕ Global)) (starts : List ℕ) : ℕ → Type 0 where
   begin : {i : ℕ} → In i starts → IsReached next starts i
   go_on : {i j : ℕ} → IsReached next starts i → IsAt next i j → IsReached next starts j
+
+-- There is a mark for each number below the size, and the marks tell for which numbers P holds.
+pub record Marks (size : ℕ) (P : ℕ → Type 0) (marks : List Bool) : Type 0 where
+  pub wide : length marks ≡ size
+  pub exact : (i : ℕ) → i < size → (slice_index_or marks i false ≡ true) ↔ P i
 
 -- what was found from the starts, where the lists of so many were looked at
 pub record Search (next : List (Vec ℕ Global)) (starts : List ℕ) (marks : List Bool) (found seen : List ℕ) : Type 0 where

@@ -5,3 +5,4 @@
 mod annotations;
 mod reach;
 mod settings;
+mod unary;

@@ -1,8 +1,8 @@
-ghost use Rattle.std.specs.Prelude.{◌≡◌, ◌↔◌, ℕ, ◌<◌, true, false, IfOk, OnOk, List, [], ◌∷◌, length, map, slice_index_or};
+ghost use Rattle.std.specs.Prelude.{◌≡◌, ◌<◌, IfOk, OnOk, [], ◌∷◌, length, map};
 ghost use Rattle.lfg_model.specs.Lists.{In};
 ghost use Rattle.lfg_rulegraph.specs.Followers.{AreEmpty, Pushed};
 ghost use Rattle.lfg_templates.specs.Graphs.{Tied, Reached};
-ghost use Rattle.lfg_grammar.specs.Reach.{IsReached, IsTableOf, turned};
+ghost use Rattle.lfg_grammar.specs.Reach.{IsReached, IsTableOf, Marks, turned};
 ghost use Rattle.lfg_grammar.specs.declared.reach.Link.{Link};
 
 use std::alloc::{AllocError, Global};
@@ -105,9 +105,7 @@ pub(crate) fn reached(
     next: &[Vec<usize>],
     starts: &[usize],
 ) -> Result<Vec<bool>, AllocError>
-    ensures length { IfOk result (λ marks. length marks.items ≡ length next.now) }
-    ensures exact { IfOk result (λ marks. (i : ℕ) → i < length next.now
-        → (slice_index_or marks.items i false ≡ true) ↔ IsReached next.now starts.now i) }
+    ensures { IfOk result (λ marks. Marks (length next.now) (IsReached next.now starts.now) marks.items) }
 {
     let mut marks = vec![in alloc; false; next.len()]?;
     let mut found = Vec::new(alloc);

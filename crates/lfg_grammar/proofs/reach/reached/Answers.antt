@@ -43,7 +43,10 @@ loop-at-preserved c =
     (tied_at _ _ c.mark_all-in-loop-at.new.marks.items c.mark_all-in-loop-at.new.found.items w c.in_ok-mark_all-2.ensures.tied)
     (reached_at _ _ _ _ _ _ c.mark_all-in-loop-at.new.found.items w c.deref.ensures.value refl c.in_ok-mark_all-2.ensures.reached)
 
-pub returns-clause-exact : goal.returns-clause-exact
-returns-clause-exact c = λ i l.
+pub returns : goal.returns
+returns c =
     let t : length c.loop-at.found.items ≤ c.loop-at.at = search rules in
-    search_done c.args.next.now c.args.starts.now c.loop-at.marks.items c.loop-at.found.items c.loop-at.at t c.loop-at.invariant i l
+    record {
+      wide = c.loop-at.invariant.tied.wide;
+      exact = search_done c.args.next.now c.args.starts.now c.loop-at.marks.items c.loop-at.found.items c.loop-at.at t c.loop-at.invariant;
+    }
