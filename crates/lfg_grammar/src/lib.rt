@@ -3,6 +3,7 @@
 #![tactic(auto)]
 
 mod annotations;
+mod cycles;
 mod reach;
 mod settings;
 mod unary;
