@@ -1,5 +1,5 @@
 -- Categories are linked as the rules say, and ranks that fall leave no cycle.
-use Rattle.std.proofs.Common.{◌≡◌, ℕ, zero, suc, ◌+◌, ◌<◌, ◌≤◌, Bool, true, false, cond, List, [], ◌∷◌, ◌++◌, length, map, take, get_or, Some, Vec, Global, Result, Ok, Err, Ordering, Less, Equal, refl, sym, ap, ◌∙◌, subst, arith, inl, inr, ◌⊎◌}
+use Rattle.std.proofs.Common.{◌≡◌, ℕ, zero, suc, ◌+◌, ◌<◌, ◌≤◌, Bool, true, false, cond, List, [], ◌∷◌, ◌++◌, length, map, take, get_or, Some, Vec, Global, Result, Ok, Err, refl, sym, ap, ◌∙◌, subst, arith, inl, inr, ◌⊎◌}
 use Rattle.std.specs.Prelude.{◌↔◌, slice_get, find}
 use Rattle.std.specs.List.Sorted.{IsSearchInRange, IsBinarySearchResult, IsStrictlySortedBy}
 use Rattle.std.proofs.lemmas.Cmp.{nat_list_cmp_total}
@@ -14,11 +14,11 @@ use Rattle.lfg_model.specs.Derive.{rule_of, item_at}
 use Rattle.lfg_model.specs.Firsts.{First, first, behind}
 use Rattle.lfg_model.specs.Grounded.{IsEmptyItem, IsItemOf, HasOnlyCategory, Unary, Chain}
 use Rattle.lfg_model.specs.Grounded as grounded
-use Rattle.lfg_model.specs.Lists.{In, here, later, Lists, Once, none, more}
+use Rattle.lfg_model.specs.Lists.{In, here, later, Lists, Once, more}
 use Rattle.lfg_model.specs.Loads.{IsCategoryOf, daughter, head, IsUnaryCycle}
 use Rattle.lfg_model.specs.TemplateRules.{NoneHas}
 use Rattle.lfg_model.specs.Terms.{Name, same_name}
-use Rattle.lfg_model.proofs.ListLaws.{In-nil, In-at, In-append_left, In-append_right, In-push, In-push_cases, In-take_more, In-cons_cases, In-map}
+use Rattle.lfg_model.proofs.ListLaws.{In-nil, In-append_left, In-push, In-push_cases, In-take_more, In-cons_cases, In-map}
 use Rattle.lfg_model.proofs.ManWalksTree.{In_from_find}
 use Rattle.lfg_model.proofs.OneTree.{same_some}
 use Rattle.lfg_rulegraph.specs.Followers.{IsAt}
@@ -28,7 +28,7 @@ use Rattle.lfg_grammar.specs.declared.reach.Link.{Link}
 use Rattle.lfg_grammar.proofs.Reaching.{in_turned}
 use Rattle.lfg_grammar.specs.Reach.{link, turned, IsTableOf, IsReached, begin, go_on}
 use Rattle.lfg_grammar.specs.OnlyDaughters.{IsOnlyDaughter}
-use Rattle.lfg_grammar.specs.Cycles.{IsFirstAt, FirstPlace, RuleLinks, SomeRuleLinks, AreRuleLinks, LeadsTo, at_once, further, rank_of, RanksBelow, RanksFall, RanksRise, TellsCycles}
+use Rattle.lfg_grammar.specs.Cycles.{IsFirstAt, RuleLinks, SomeRuleLinks, AreRuleLinks, LeadsTo, at_once, further, rank_of, RanksBelow, RanksFall, RanksRise, TellsCycles}
 
 -- ---- places of categories
 

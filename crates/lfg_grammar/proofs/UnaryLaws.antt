@@ -6,14 +6,13 @@ use Rattle.std.proofs.lemmas.List.{take_more, take_all, append-nil, length-take}
 use Rattle.lfg_terms.specs.declared.grammar.Graph.{Graph}
 use Rattle.lfg_terms.specs.declared.grammar.Item.{Item}
 use Rattle.lfg_terms.specs.declared.grammar.Rule.{Rule}
-use Rattle.lfg_model.specs.Derive.{CanFollow, CanEnd, Runs, Walks}
+use Rattle.lfg_model.specs.Derive.{CanFollow, CanEnd, Runs}
 use Rattle.lfg_model.specs.Graphs.{IsGraph}
 use Rattle.lfg_model.specs.Grounded.{IsEmptyItem, IsItemOf, AreEmptyItems, HasOnlyCategory, EmptyStep}
 use Rattle.lfg_model.specs.Lists.{In, here}
 use Rattle.lfg_model.specs.Terms.{Name}
-use Rattle.lfg_model.proofs.ListLaws.{In-nil, In-one, In-append_left, In-append_right, In-append_cases, In-push, In-push_cases, In-take_more, In-map, In_from_map}
+use Rattle.lfg_model.proofs.ListLaws.{In-nil, In-one, In-append_left, In-append_right, In-append_cases, In-push, In-push_cases, In-map, In_from_map}
 use Rattle.lfg_model.proofs.OneTree.{same_some}
-use Rattle.lfg_rulegraph.specs.Followers.{IsAt}
 use Rattle.lfg_grammar.specs.declared.reach.Link.{Link}
 use Rattle.lfg_grammar.specs.Reach.{link, turned, IsTableOf, IsReached, begin, go_on, Marks}
 use Rattle.lfg_grammar.specs.OnlyDaughters.{IsOnlyDaughter, FromStart, at_start, go_over, ToEnd, at_end, come_over, LinksOnly, links_from}

@@ -4,7 +4,6 @@ use Rattle.std.specs.Global.{Global}
 use Rattle.lfg_terms.specs.declared.grammar.Rule.{Rule}
 use Rattle.lfg_terms.specs.declared.grammar.Grammar.{Grammar}
 use Rattle.lfg_model.specs.Firsts.{First}
-use Rattle.lfg_model.specs.Grounded.{Unary}
 use Rattle.lfg_model.specs.Lists.{In}
 use Rattle.lfg_model.specs.Loads.{IsUnaryCycle}
 use Rattle.lfg_model.specs.TemplateRules.{NoneHas}

@@ -1,9 +1,8 @@
 -- The categories that a rule can have as its only daughter, found from both ends of its graph.
-use Rattle.std.specs.Prelude.{ℕ, zero, suc, List, [], ◌∷◌, ◌++◌, map}
+use Rattle.std.specs.Prelude.{ℕ, suc, List, [], ◌∷◌, ◌++◌, map}
 use Rattle.lfg_terms.specs.declared.grammar.Rule.{Rule}
-use Rattle.lfg_model.specs.Derive.{CanFollow, CanEnd, Walks}
+use Rattle.lfg_model.specs.Derive.{CanEnd, Walks}
 use Rattle.lfg_model.specs.Grounded.{IsItemOf, HasOnlyCategory, EmptyStep}
-use Rattle.lfg_model.specs.Lists.{In}
 use Rattle.lfg_model.specs.Terms.{Name}
 use Rattle.lfg_grammar.specs.declared.reach.Link.{Link}
 use Rattle.lfg_grammar.specs.Reach.{link}

@@ -1,4 +1,4 @@
-use Rattle.std.proofs.Common.{rules, arith, length, replicate, false, ◌≡◌, ◌<◌, ◌≤◌, ◌∙◌, ap, sym, refl}
+use Rattle.std.proofs.Common.{rules, length, replicate, false, ◌≡◌, ◌<◌, ◌≤◌, ◌∙◌, ap, refl}
 use Rattle.std.proofs.lemmas.List.{length-replicate}
 use Rattle.lfg_templates.proofs.Measures.{In_item}
 use Rattle.lfg_templates.proofs.Reaching.{tied_fresh, tied_at, tied_within, reached_at}

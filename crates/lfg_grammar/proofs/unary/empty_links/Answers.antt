@@ -1,4 +1,4 @@
-use Rattle.std.proofs.Common.{◌+◌, ◌∙◌, ℕ, List, Vec, Global, get_or, refl, ap, sym, subst}
+use Rattle.std.proofs.Common.{◌+◌, ◌∙◌, List, Vec, Global, get_or, refl, ap, sym, subst}
 use Rattle.std.specs.Prelude.{◌↔◌}
 use Rattle.std.proofs.lemmas.Bool.{false≢true}
 use Rattle.lfg_model.specs.Lists.{In}
