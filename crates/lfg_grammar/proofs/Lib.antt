@@ -5,3 +5,6 @@ pub mod Loading
 pub mod ItemLaws
 pub mod WordLaws
 pub mod HalfLaws
+pub mod Reaching
+pub mod UnaryLaws
+pub mod CycleLaws

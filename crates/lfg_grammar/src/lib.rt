@@ -7,3 +7,6 @@ mod items;
 mod rules;
 mod settings;
 mod words;
+mod cycles;
+mod reach;
+mod unary;
