@@ -1,1 +1,4 @@
 pub mod Answers
+pub mod Categories
+pub mod Found
+pub mod Unlinked

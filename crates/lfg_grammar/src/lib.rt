@@ -3,4 +3,7 @@
 #![tactic(auto)]
 
 mod annotations;
+mod both;
+mod categories;
+mod links;
 mod settings;
