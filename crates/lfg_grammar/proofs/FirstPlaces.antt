@@ -4,13 +4,10 @@ use Rattle.std.proofs.lemmas.List.{take_all}
 use Rattle.lfg_model.specs.Firsts.{First, first, behind}
 use Rattle.lfg_model.specs.Lists.{In, here, later}
 use Rattle.lfg_model.specs.TemplateRules.{NoneHas}
-use Rattle.lfg_model.proofs.ListLaws.{In-at, In-nil, In-take_more}
+use Rattle.lfg_model.proofs.ListLaws.{In-at, In-take_more}
 use Rattle.lfg_grammar.specs.Found.{IsFirstAt}
 
 module _ {X : Type 0} (P : X → Type 0) where
-  pub none_yet : (xs : List X) → NoneHas P (take 0 xs)
-  none_yet xs = λ x i p. In-nil i
-
   -- one more element, read by its place
   pub none_more : (xs : List X) (i : ℕ) (x : X) → i < length xs → x ≡ get_or xs i x → NoneHas P (take i xs) → (P x → ⊥) → NoneHas P (take (i + 1) xs)
   none_more xs i x l e n q = λ y h p. elim (In-take_more xs i x l h) [

@@ -1,5 +1,5 @@
 -- The test says that an annotation can be resolved to no link exactly where it can.
-use Rattle.std.proofs.Common.{◌≡◌, ◌⊎◌, ℕ, zero, suc, ◌<◌, length, get_or, drop, Vec, Global, arith, Bool, true, false, not, ◌&&◌, ◌||◌, is_none, is_some, Option, Some, None, List, [], ◌∷◌, ◌++◌, inl, inr, refl, sym, ap, ◌∙◌, subst}
+use Rattle.std.proofs.Common.{◌≡◌, ◌↔◌, ◌⊎◌, ℕ, zero, suc, ◌<◌, length, get_or, drop, Vec, Global, arith, Bool, true, false, not, ◌&&◌, ◌||◌, is_none, is_some, Option, Some, None, List, [], ◌∷◌, ◌++◌, inl, inr, refl, subst}
 use Rattle.lfg_terms.specs.declared.grammar.Arrow.{Arrow}
 use Rattle.lfg_terms.specs.declared.grammar.Arrow.TheVariants.{Up, Down}
 use Rattle.lfg_terms.specs.declared.grammar.Des.{Des}
@@ -14,7 +14,7 @@ use Rattle.lfg_model.specs.Loads.{IsUnlinked}
 use Rattle.lfg_model.specs.Terms.{Name, Paths, Schema, define, constrain, exists, member, mark, either, maybe, call, Annotation, no_schema, and_schema, Branches, no_branch, or_branch, annotation_of, branches_from}
 use Rattle.lfg_model.specs.TemplateRules.{NoneHas}
 use Rattle.lfg_model.proofs.ListLaws.{In-append_left, In-append_right, In-append_cases, In-nil, In-one}
-use Rattle.lfg_grammar.specs.Unlinked.{is_up, is_mother, is_daughter, joins_both, links_equation, links_member, schema_can_be_unlinked, can_be_unlinked, branch_can_be_unlinked, item_is_unlinked}
+use Rattle.lfg_grammar.specs.Unlinked.{is_up, is_mother, is_daughter, links_equation, links_member, schema_can_be_unlinked, can_be_unlinked, branch_can_be_unlinked, item_is_unlinked}
 
 -- ---- tests
 
@@ -142,7 +142,7 @@ mutual
   schema_can (maybe inside) e = record { schemata = []; reached = left_out; unlinked = none_of_none }
   schema_can (call name args) e = cc
 
-  pub annotation_can : (a : Annotation) → can_be_unlinked a ≡ true → CanBeUnlinked a
+  annotation_can : (a : Annotation) → can_be_unlinked a ≡ true → CanBeUnlinked a
   annotation_can no_schema e = record { schemata = []; reached = nothing; unlinked = none_of_none }
   annotation_can (and_schema s a) e =
       let b = and_true (schema_can_be_unlinked s) (can_be_unlinked a) e in
@@ -177,6 +177,10 @@ mutual
   annotation_test nothing n = refl
   annotation_test (one_more {s} {a} {xs} {ys} r q) n = both_true (schema_can_be_unlinked s) (can_be_unlinked a) (schema_test r (none_of_left xs ys n)) (annotation_test q (none_of_right xs ys n))
 
+-- the test is true exactly where the annotation can be resolved to no link
+pub unlinked_exactly : (a : Annotation) → (can_be_unlinked a ≡ true) ↔ CanBeUnlinked a
+unlinked_exactly a = (annotation_can a, λ u. annotation_test u.reached u.unlinked)
+
 -- ---- loops
 
 pub branch_there : (bs : List (Vec (declared.Schema Paths) Global)) (i : ℕ) (b : Vec (declared.Schema Paths) Global) → i < length bs → b ≡ get_or bs i b → can_be_unlinked (annotation_of b.items) ≡ true → branch_can_be_unlinked (branches_from (drop i bs)) ≡ true
@@ -194,8 +198,8 @@ pub rule_is_unlinked : (r : Rule) (i : Item) → In i r.items → item_is_unlink
 rule_is_unlinked r i among e =
     let b = and_true (is_some i.cat) (can_be_unlinked (annotation_of i.schemata)) e in
     let c = some_true i.cat b.0 in
-    record { item = i; cat = c.0; among = among; category = c.1; unlinked = annotation_can (annotation_of i.schemata) b.1 }
+    record { item = i; cat = c.0; among = among; category = c.1; unlinked = (unlinked_exactly (annotation_of i.schemata)).0 b.1 }
 
 pub rule_is_linked : (r : Rule) → NoneHas (λ (i : Item). item_is_unlinked i ≡ true) r.items → IsUnlinked r → ⊥
 rule_is_linked r n u =
-    n u.item u.among (both_true (is_some u.item.cat) (can_be_unlinked (annotation_of u.item.schemata)) (rw u.category refl) (annotation_test u.unlinked.reached u.unlinked.unlinked))
+    n u.item u.among (both_true (is_some u.item.cat) (can_be_unlinked (annotation_of u.item.schemata)) (rw u.category refl) ((unlinked_exactly (annotation_of u.item.schemata)).1 u.unlinked))

@@ -1,5 +1,5 @@
 -- Looking a category up among those of the words, in order.
-use Rattle.std.proofs.Common.{◌≡◌, ℕ, zero, suc, ◌<◌, ◌≤◌, ◌⊎◌, inl, inr, Bool, true, false, Result, Ok, Err, is_ok, List, length, get_or, refl, sym, ◌∙◌, ap, subst, arith, Less, Equal, Greater, Ordering, HoldsAt}
+use Rattle.std.proofs.Common.{◌≡◌, ℕ, zero, suc, ◌<◌, ◌≤◌, ◌⊎◌, inl, inr, true, false, Result, Ok, Err, is_ok, List, length, get_or, refl, sym, ◌∙◌, subst, arith, Less, Equal, Greater, Ordering}
 use Rattle.std.specs.List.Sorted.{IsPermutation, IsSorted, IsSearchInRange, IsBinarySearchResult, IsPartitionPoint}
 use Rattle.std.proofs.lemmas.Cmp.{nat_list_cmp_total}
 use Rattle.std.proofs.lemmas.List.Sorted.{Contains-permutation, IsPermutation-sym, searchable_from_sorted}

@@ -1,4 +1,5 @@
 pub mod Answers
+pub mod BadPaths
 pub mod Categories
 pub mod Found
 pub mod Unlinked

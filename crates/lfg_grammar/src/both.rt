@@ -1,4 +1,4 @@
-ghost use Rattle.std.specs.Prelude.{◌≡◌, ◌↔◌, IfOk, IsTrue};
+ghost use Rattle.std.specs.Prelude.{IfOk};
 ghost use Rattle.lfg_model.specs.Loads.{HasWords};
 ghost use Rattle.lfg_grammar.specs.Found.{FoundFirst};
 
@@ -6,7 +6,7 @@ use crate::categories::push_words;
 use lfg_terms::{Grammar, Name};
 use std::alloc::{AllocError, Global};
 
-/// The place, from 0, of the first rule whose category has words too.
+/// The place, from 0, of the first rule whose category has words too, if there is one.
 pub(crate) fn first_both(alloc: Global, grammar: &Grammar) -> Result<Option<usize>, AllocError>
     ensures { IfOk result (FoundFirst (HasWords grammar.now) grammar.now.rules) }
 {

@@ -3,6 +3,7 @@
 #![tactic(auto)]
 
 mod annotations;
+mod bad_paths;
 mod both;
 mod categories;
 mod links;

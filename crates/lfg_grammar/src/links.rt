@@ -104,7 +104,7 @@ fn is_unlinked(rule: &Rule) -> bool
 }
 
 /// The place, from 0, of the first rule with a category item that may be without a link to its
-/// mother. Takes no memory.
+/// mother, if there is one. Takes no memory.
 pub(crate) fn first_unlinked(grammar: &Grammar) -> Option<usize>
     ensures { FoundFirst IsUnlinked grammar.now.rules result }
 {

@@ -1,4 +1,4 @@
-use Rattle.std.proofs.Common.{◌≡◌, ◌++◌, true, false, List, subst, sym, ◌∙◌, ap}
+use Rattle.std.proofs.Common.{◌≡◌, ◌++◌, List, subst, sym, ◌∙◌, ap}
 use Rattle.std.specs.List.Sorted.{IsPermutation, IsSorted, IsBinarySearchResult}
 use Rattle.lfg_terms.specs.Order.{name_cmp}
 use Rattle.lfg_terms.specs.declared.grammar.Rule.{Rule}

@@ -3,7 +3,7 @@ use Rattle.lfg_terms.specs.declared.grammar.Item.{Item}
 use Rattle.lfg_model.specs.Lists.{In}
 use Rattle.lfg_model.specs.TemplateRules.{NoneHas}
 use Rattle.lfg_grammar.specs.Unlinked.{item_is_unlinked}
-use Rattle.lfg_grammar.proofs.FirstPlaces.{in_there, none_at_end, none_more, none_yet}
+use Rattle.lfg_grammar.proofs.FirstPlaces.{in_there, none_at_end, none_more}
 use Rattle.lfg_grammar.proofs.Unlinkable.{rule_is_linked, rule_is_unlinked}
 use Rattle.lfg_grammar.proofs.links.is_unlinked.Goals as goal
 
