@@ -1,4 +1,7 @@
+pub mod AllCategories
 pub mod Fails
+pub mod FirstBad
+pub mod FirstPlaces
 pub mod Numbers
 pub mod Keys
 pub mod Loading
@@ -8,3 +11,6 @@ pub mod HalfLaws
 pub mod Reaching
 pub mod UnaryLaws
 pub mod CycleLaws
+pub mod PathGathering
+pub mod Unlinkable
+pub mod WordCategories

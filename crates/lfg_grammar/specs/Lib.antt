@@ -5,3 +5,7 @@ pub mod Read
 pub mod Reach
 pub mod OnlyDaughters
 pub mod Cycles
+pub mod BadPaths
+pub mod Categories
+pub mod Found
+pub mod Unlinked

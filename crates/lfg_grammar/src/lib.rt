@@ -5,6 +5,10 @@
 mod annotations;
 mod items;
 mod rules;
+mod bad_paths;
+mod both;
+mod categories;
+mod links;
 mod settings;
 mod words;
 mod cycles;
