@@ -68,3 +68,6 @@ pub mod ChartLaws
 pub mod OnePick
 pub mod SomePick
 pub mod ReachedLaws
+pub mod SoundForms
+pub mod SoundDrafts
+pub mod SoundEntries
