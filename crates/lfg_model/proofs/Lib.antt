@@ -71,3 +71,4 @@ pub mod ReachedLaws
 pub mod SoundForms
 pub mod SoundDrafts
 pub mod SoundEntries
+pub mod SoundExpansion

@@ -134,7 +134,7 @@ free_form (form_with v i o) f =
 
 -- ---- annotations
 
-free_from : (ss : List DraftSchema) → AreFreeSchemata ss → IsFreeAnnotation (draft_annotation_from ss)
+pub free_from : (ss : List DraftSchema) → AreFreeSchemata ss → IsFreeAnnotation (draft_annotation_from ss)
 free_from [] f = tt
 free_from (s ∷ ss) f = (f.0, free_from ss f.1)
 
