@@ -72,3 +72,4 @@ pub mod SoundForms
 pub mod SoundDrafts
 pub mod SoundEntries
 pub mod SoundExpansion
+pub mod SoundLoads
