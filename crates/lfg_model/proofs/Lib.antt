@@ -73,3 +73,5 @@ pub mod SoundDrafts
 pub mod SoundEntries
 pub mod SoundExpansion
 pub mod SoundLoads
+pub mod SoundCounts
+pub mod SoundHeads
