@@ -75,3 +75,4 @@ pub mod SoundExpansion
 pub mod SoundLoads
 pub mod SoundCounts
 pub mod SoundHeads
+pub mod SoundRows
