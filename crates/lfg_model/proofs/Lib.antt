@@ -76,3 +76,4 @@ pub mod SoundLoads
 pub mod SoundCounts
 pub mod SoundHeads
 pub mod SoundRows
+pub mod SoundWalks

@@ -136,6 +136,14 @@ unfolding full
 full-append all [] w = omega arith
 full-append all (p ∷ v) w = let e = full-append all v w in omega (arith, e)
 
+-- rows as full stay so behind a row
+pub full_behind : (all : List Name) (front : List ℕ) (q : ℕ) (v w : List ℕ) → full all v ≡ full all w → full all (front ++ q ∷ v) ≡ full all (front ++ q ∷ w)
+unfolding full
+full_behind all front q v w e =
+    let b = full-append all front (q ∷ v) in
+    let c = full-append all front (q ∷ w) in
+    omega (arith, e, b, c)
+
 pub full_of_empty : (all : List Name) (w : List ℕ) → IsEmptyRow all w → full all w ≡ 0
 unfolding full counts one_or_none
 full_of_empty all [] e = refl

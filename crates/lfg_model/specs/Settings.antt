@@ -1,5 +1,5 @@
 -- The settings of a grammar: which are at fault, and what they set.
-use Rattle.std.specs.Prelude.{◌≡◌, ℕ, ◌≤◌, ◌⊎◌, cond, Option, Some, None, List, [], ◌∷◌, map, decimal, codes}
+use Rattle.std.specs.Prelude.{◌≡◌, ℕ, ◌≤◌, ◌⊎◌, cond, Option, Some, None, List, [], ◌∷◌, decimal, codes}
 use Rattle.lfg_terms.specs.declared.draft.Setting.{Setting}
 use Rattle.lfg_model.specs.Firsts.{First}
 use Rattle.lfg_model.specs.Lists.{In}
@@ -44,9 +44,14 @@ placed settings = placed_from [] settings
 abbrev pub IsBadSetting : Placed → Type 0
 IsBadSetting p = In p.setting.key p.earlier ⊎ IsOutOfRange (greatest_of p.setting.key) p.setting.words
 
--- the root category is set
+-- the words that the key is set to, if it is set
+abbrev pub words_set : Name → List Setting → Option (List Name)
+words_set key [] = None
+words_set key (s ∷ ss) = cond (same_name s.key key) (Some s.words) (words_set key ss)
+
+-- the root category is set, to one name
 abbrev pub SetsRoot : List Setting → Type 0
-SetsRoot settings = In (codes "ROOTCAT") (map (λ s. s.key) settings)
+SetsRoot settings = (root : Name) × (words_set (codes "ROOTCAT") settings ≡ Some (root ∷ []))
 
 -- no setting is at fault, and the root category is set
 pub record AreSettings (settings : List Setting) : Type 0 where
@@ -60,11 +65,6 @@ pub data HasBadSetting (settings : List Setting) : ℕ → Type 0 where
   no_root : NoneHas IsBadSetting (placed settings) → ¬ SetsRoot settings → HasBadSetting settings 0
 
 -- ---- what is set
-
--- the words that the key is set to, if it is set
-abbrev pub words_set : Name → List Setting → Option (List Name)
-words_set key [] = None
-words_set key (s ∷ ss) = cond (same_name s.key key) (Some s.words) (words_set key ss)
 
 -- the number of these words, at most the greatest, or this one where there are none
 abbrev pub IsNumberOr : ℕ → ℕ → Option (List Name) → ℕ → Type 0
