@@ -77,3 +77,4 @@ pub mod SoundCounts
 pub mod SoundHeads
 pub mod SoundRows
 pub mod SoundWalks
+pub mod SoundLaws

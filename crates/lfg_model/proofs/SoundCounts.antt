@@ -1,17 +1,14 @@
 -- A grammar has no more schemata than its draft, and as many items at each rule.
-use Rattle.std.proofs.Common.{◌≡◌, ℕ, suc, ◌+◌, ◌≤◌, Bool, true, false, ◌&&◌, cond, Option, Some, None, List, [], ◌∷◌, ◌++◌, length, map, refl, ap, sym, ◌∙◌, subst, arith}
+use Rattle.std.proofs.Common.{◌≡◌, ℕ, suc, ◌+◌, ◌≤◌, Bool, true, false, ◌&&◌, cond, Option, Some, None, List, [], ◌∷◌, length, map, refl, ap, arith}
 use Rattle.std.specs.List.{sum_by}
 use Rattle.std.proofs.lemmas.List.Sums.{sum_by-cons, sum_by-append}
-use Rattle.lfg_terms.specs.declared.grammar.Arrow.TheVariants.{Up, Down}
-use Rattle.lfg_terms.specs.declared.grammar.Des.{Des}
 use Rattle.lfg_terms.specs.declared.grammar.Item.{Item}
 use Rattle.lfg_terms.specs.declared.grammar.Rule.{Rule}
 use Rattle.lfg_terms.specs.declared.grammar.Lex.{Lex}
 use Rattle.lfg_terms.specs.declared.grammar.Grammar.{Grammar}
 use Rattle.lfg_model.specs.DraftForms.{RuleForm, WordForm, PlainForm}
 use Rattle.lfg_model.specs.Loaded.{schema_count, count_of, branches_count, is_up, is_bare, is_same_structure, item_count, rule_count, word_count, grammar_count}
-use Rattle.lfg_model.specs.Loads.{LoadsPath, bare, LoadsDes, designator, LoadsSchema, defining, constraining, existential, membership, marked, disjunction, option, LoadsAnnotation, nothing, schema_more, LoadsBranches, no_more, branch_more, WrittenItem, items_of, all_items_of, same_structure, annotation_or, annotation_for, category_for, LoadsItem, LoadsRule, LoadsWord, Assembles}
-use Rattle.lfg_model.specs.PathExpressions.{PathExpression}
+use Rattle.lfg_model.specs.Loads.{LoadsPath, bare, designator, LoadsSchema, defining, constraining, existential, membership, marked, disjunction, option, LoadsAnnotation, nothing, schema_more, LoadsBranches, no_more, branch_more, WrittenItem, items_of, all_items_of, same_structure, annotation_or, LoadsItem, LoadsRule, LoadsWord, Assembles}
 use Rattle.lfg_model.specs.RightSides.{DraftSchema, DraftAnnotation, DraftBranches, no_schema, RightSide, RightSides, item, row, one_of, optional, star, plus, no_side, and_side}
 use Rattle.lfg_model.specs.Templates.{Each, end, and}
 use Rattle.lfg_model.specs.TemplateRules.{schema_size, annotation_size, branches_size, option_size, side_size, sides_size, Weight, rule_weight, reading_weight, weights, whole_size}

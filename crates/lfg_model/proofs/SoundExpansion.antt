@@ -1,17 +1,16 @@
 -- A draft whose names are free becomes one without templates whose names are free.
-use Rattle.std.proofs.Common.{◌≡◌, ℕ, Bool, true, false, cond, Option, Some, None, List, [], ◌∷◌, ◌++◌, map, refl, ap, sym, ◌∙◌, subst}
+use Rattle.std.proofs.Common.{◌≡◌, ℕ, Bool, true, false, cond, Option, Some, None, List, [], ◌∷◌, ◌++◌, map, sym, subst}
 use Rattle.lfg_terms.specs.declared.grammar.Des.{Des}
-use Rattle.lfg_terms.specs.declared.grammar.Form.{Form}
 use Rattle.lfg_terms.specs.declared.grammar.Val.{Val}
 use Rattle.lfg_terms.specs.declared.grammar.Val.TheVariants as val
 use Rattle.lfg_terms.specs.declared.draft.Setting.{Setting}
 use Rattle.lfg_model.specs.DraftForms.{RuleForm, TemplateForm, WordForm, DraftForm, PlainForm}
 use Rattle.lfg_model.specs.Lists.{In, here, later}
-use Rattle.lfg_model.specs.Loaded.{IsFree, AreFree, IsSoundForm}
+use Rattle.lfg_model.specs.Loaded.{IsFree, AreFree}
 use Rattle.lfg_model.specs.PathExpressions as path
 use Rattle.lfg_model.specs.PathExpressions.{PathExpression, PathExpressions, attribute, no_path, and_path}
-use Rattle.lfg_model.specs.RightSides.{DraftSchema, DraftAnnotation, DraftBranches, no_branch, or_branch, draft_annotation_from, draft_branches_from, RightSide, RightSides}
-use Rattle.lfg_model.specs.Templates.{Binding, unbound, name_by, name_with, path_with, paths_with, des_with, form_with, val_with, template_named, Becomes, defining, constraining, existential, membership, marked, disjunction, option, called, AllBecome, nothing, one_more, BranchesBecome, no_more, branch_more, SideBecomes, bare, annotated, in_row, in_branches, in_option, in_star, in_plus, SidesBecome, no_part, part_more, RuleBecomes, ReadingBecomes, Expands}
+use Rattle.lfg_model.specs.RightSides.{DraftSchema, DraftAnnotation, DraftBranches, draft_annotation_from, draft_branches_from, RightSide, RightSides}
+use Rattle.lfg_model.specs.Templates.{Binding, unbound, name_by, name_with, path_with, paths_with, des_with, val_with, template_named, Becomes, defining, constraining, existential, membership, marked, disjunction, option, called, AllBecome, nothing, one_more, BranchesBecome, no_more, branch_more, SideBecomes, bare, annotated, in_row, in_branches, in_option, in_star, in_plus, SidesBecome, no_part, part_more, RuleBecomes, ReadingBecomes, Expands}
 use Rattle.lfg_model.specs.Terms.{Name, same_name}
 use Rattle.lfg_model.proofs.AssemblyLaws.{each_back}
 use Rattle.lfg_model.proofs.ListLaws.{In_from_map}

@@ -1,12 +1,11 @@
 -- Where no name heads two entries and the entries of the rules are different, no category has two
 -- rules.
-use Rattle.std.proofs.Common.{◌≡◌, ℕ, List, [], ◌∷◌, ◌++◌, map, refl, ap, sym, ◌∙◌, subst, inl, inr}
-use Rattle.lfg_terms.specs.declared.grammar.Rule.{Rule}
+use Rattle.std.proofs.Common.{◌≡◌, ℕ, List, [], ◌∷◌, ◌++◌, map, refl, ap, sym, ◌∙◌, subst, inl}
 use Rattle.lfg_terms.specs.declared.grammar.Grammar.{Grammar}
 use Rattle.lfg_model.specs.DraftForms.{RuleForm, DraftForm, PlainForm}
 use Rattle.lfg_model.specs.Lists.{In, here, later, Once, none, more}
 use Rattle.lfg_model.specs.Loads.{LoadsRule, Assembles}
-use Rattle.lfg_model.specs.TemplateRules.{NoneHas, Head, Headed, headed_from, headed, rule_head, template_head, reading_head, heads, HeadsBefore, Repeated, NoneRepeated}
+use Rattle.lfg_model.specs.TemplateRules.{NoneHas, Head, Headed, headed_from, headed, rule_head, template_head, reading_head, Repeated, NoneRepeated}
 use Rattle.lfg_model.specs.Templates.{Each, end, and, RuleBecomes, Expands}
 use Rattle.lfg_model.specs.Terms.{Name}
 use Rattle.lfg_model.proofs.ListLaws.{In-append_left, In-push, In-map, In_from_map}

@@ -1,16 +1,15 @@
 -- Where the names of a draft are free, its grammar has sound annotations and free names.
-use Rattle.std.proofs.Common.{◌≡◌, ℕ, ◌≤◌, Bool, true, false, cond, Option, Some, None, List, [], ◌∷◌, ◌++◌, length, map, codes, refl, ap, sym, ◌∙◌, subst, inl, inr, arith}
-use Rattle.lfg_terms.specs.declared.grammar.Des.{Des}
+use Rattle.std.proofs.Common.{◌≡◌, ℕ, ◌≤◌, Bool, true, false, cond, Option, Some, None, List, [], ◌∷◌, ◌++◌, codes, refl, sym, ◌∙◌, subst, inl, inr, arith}
 use Rattle.lfg_terms.specs.declared.grammar.Val.{Val}
 use Rattle.lfg_terms.specs.declared.grammar.Item.{Item}
 use Rattle.lfg_terms.specs.declared.grammar.Rule.{Rule}
 use Rattle.lfg_terms.specs.declared.grammar.Lex.{Lex}
 use Rattle.lfg_terms.specs.declared.grammar.Grammar.{Grammar}
 use Rattle.lfg_terms.specs.declared.draft.Setting.{Setting}
-use Rattle.lfg_model.specs.DraftForms.{RuleForm, WordForm, PlainForm}
+use Rattle.lfg_model.specs.DraftForms.{PlainForm}
 use Rattle.lfg_model.specs.Lists.{In, here, later}
-use Rattle.lfg_model.specs.Loaded.{IsFree, AreFree, ArePaths, IsSoundPath, IsSoundDes, IsSoundVal, IsSoundTest, IsSoundSchema, IsSound, AreSound, HasBranch, HasFreeNames}
-use Rattle.lfg_model.specs.Loads.{HasStrings, LoadsPath, bare, strings, LoadsDes, LoadsVal, designator, atom, form, LoadsSchema, defining, constraining, existential, membership, marked, disjunction, option, LoadsAnnotation, nothing, schema_more, LoadsBranches, no_more, branch_more, WrittenItem, items_of, all_items_of, same_structure, annotation_for, category_for, LoadsItem, LoadsRule, LoadsWord, IsCategoryOf, root, head, daughter, of_word, Assembles}
+use Rattle.lfg_model.specs.Loaded.{IsFree, AreFree, IsSoundPath, IsSoundVal, IsSoundTest, IsSoundSchema, IsSound, AreSound, HasBranch, HasFreeNames}
+use Rattle.lfg_model.specs.Loads.{LoadsPath, bare, strings, LoadsVal, designator, atom, form, LoadsSchema, defining, constraining, existential, membership, marked, disjunction, option, LoadsAnnotation, nothing, schema_more, LoadsBranches, no_more, branch_more, WrittenItem, items_of, all_items_of, same_structure, annotation_for, category_for, IsCategoryOf, root, head, daughter, of_word, Assembles}
 use Rattle.lfg_model.specs.PathExpressions as path
 use Rattle.lfg_model.specs.PathExpressions.{PathExpression, PathExpressions, attribute, no_path, and_path, HasString, HasRow, HasBranch as HasPathBranch}
 use Rattle.lfg_model.specs.RightSides.{DraftSchema, DraftAnnotation, DraftBranches, no_schema, RightSide, RightSides, item, row, one_of, optional, star, plus, no_side, and_side}
@@ -20,9 +19,9 @@ use Rattle.lfg_model.specs.Settings.{words_set, words_or_none, IsNumberOr, IsSet
 use Rattle.lfg_model.specs.Terms.{Name, same_name, Path, Paths, Schema, Annotation, Branches, annotation_of}
 use Rattle.lfg_model.specs.Thin.{empty_item}
 use Rattle.lfg_model.proofs.AssemblyLaws.{each_back}
-use Rattle.lfg_model.proofs.ListLaws.{In-nil, In-cons_cases, In-append_cases, In-one}
+use Rattle.lfg_model.proofs.ListLaws.{In-nil, In-append_cases, In-one}
 use Rattle.lfg_model.proofs.OneTree.{same_some}
-use Rattle.lfg_model.proofs.SoundForms.{IsFreePath, AreFreePaths, IsFreeOption, IsFreeDes, IsFreeVal, IsFreeTest, IsFreeSchema, IsFreeAnnotation, AreFreeBranches, HasDraftBranch, IsFreeNote, IsFreeSide, AreFreeSides, IsFreeSetting}
+use Rattle.lfg_model.proofs.SoundForms.{IsFreePath, AreFreePaths, IsFreeOption, IsFreeVal, IsFreeTest, IsFreeSchema, IsFreeAnnotation, AreFreeBranches, HasDraftBranch, IsFreeNote, IsFreeSide, AreFreeSides}
 use Rattle.lfg_model.proofs.SoundDrafts.{free_none}
 use Rattle.lfg_model.proofs.SoundExpansion.{IsFreePlain}
 

@@ -1,20 +1,20 @@
 -- The graph of a rule is grounded: each walk has a category, and no item comes after itself by empty
 -- items alone.
-use Rattle.std.proofs.Common.{◌≡◌, ℕ, zero, suc, ◌+◌, ◌*◌, ◌<◌, ◌≤◌, Bool, true, false, cond, Option, Some, None, List, [], ◌∷◌, ◌++◌, length, map, nat_lt, refl, sym, ap, subst, ◌∙◌, inl, inr, ◌⊎◌, arith, length-append}
+use Rattle.std.proofs.Common.{◌≡◌, ℕ, zero, suc, ◌+◌, ◌*◌, ◌<◌, ◌≤◌, Bool, true, false, cond, Some, None, List, [], ◌∷◌, ◌++◌, length, map, nat_lt, refl, sym, ap, subst, ◌∙◌, inl, inr, ◌⊎◌, arith, length-append}
 use Rattle.std.specs.Prelude.{slice_get}
 use Rattle.std.proofs.lemmas.Bool.{ltb-true, ltb-false}
 use Rattle.std.proofs.lemmas.List.{append-nil, map-append, length-map}
 use Rattle.lfg_terms.specs.declared.grammar.Graph.{Graph}
 use Rattle.lfg_terms.specs.declared.grammar.Item.{Item}
 use Rattle.lfg_terms.specs.declared.grammar.Rule.{Rule}
-use Rattle.lfg_model.specs.Derive.{item_at, CanFollow, Runs, Walks}
+use Rattle.lfg_model.specs.Derive.{Runs, Walks}
 use Rattle.lfg_model.specs.DraftForms.{RuleForm}
 use Rattle.lfg_model.specs.Grounded.{IsEmptyItem, AreEmptyItems, EmptyStep, Chain, link, links}
-use Rattle.lfg_model.specs.Lists.{In, here, later}
-use Rattle.lfg_model.specs.Loads.{WrittenItem, items_of, all_items_of, category_for, LoadsItem, LoadsRule, HasGraph}
+use Rattle.lfg_model.specs.Lists.{In, here}
+use Rattle.lfg_model.specs.Loads.{WrittenItem, items_of, all_items_of, category_for, LoadsItem, LoadsRule}
 use Rattle.lfg_model.specs.RightSides.{RightSide, item, row, one_of, optional, star, plus, RightSides, no_side, and_side}
 use Rattle.lfg_model.specs.Sequences.{no_more, once_more}
-use Rattle.lfg_model.specs.Spelling.{AllowsEmpty, SpellsBehind, SpellsBranch, SpellsRow, Spells, categories, categories_of, category_at}
+use Rattle.lfg_model.specs.Spelling.{SpellsBehind, SpellsBranch, SpellsRow, categories, categories_of, category_at}
 use Rattle.lfg_model.specs.Templates.{Each, end, and}
 use Rattle.lfg_model.specs.Terms.{Name, same_name}
 use Rattle.lfg_model.specs.Thin.{empty_item}
