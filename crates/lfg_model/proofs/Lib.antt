@@ -75,6 +75,7 @@ pub mod SoundExpansion
 pub mod SoundLoads
 pub mod SoundCounts
 pub mod SoundHeads
+pub mod PartPlaces
 pub mod SoundRows
 pub mod SoundWalks
 pub mod SoundLaws

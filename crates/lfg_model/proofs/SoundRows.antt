@@ -1,9 +1,7 @@
 -- A right side in which nothing that is repeated can be without a category spells no row that is much
 -- longer than its number of categories.
-use Rattle.std.proofs.Common.{◌≡◌, ℕ, zero, suc, ◌+◌, ◌*◌, ◌≤◌, Bool, true, false, Option, Some, None, List, [], ◌∷◌, ◌++◌, length, drop, refl, sym, ap, subst, ◌∙◌, inl, inr, append_assoc, add-one, arith, length-append}
-use Rattle.std.specs.Prelude.{slice_get}
-use Rattle.std.proofs.Math.Seq.{drop-append_seam}
-use Rattle.std.proofs.lemmas.List.{append-nil, drop-drop}
+use Rattle.std.proofs.Common.{◌≡◌, ℕ, zero, suc, ◌+◌, ◌*◌, ◌≤◌, Bool, true, false, Option, Some, None, List, [], ◌∷◌, ◌++◌, length, refl, sym, ap, subst, ◌∙◌, inl, inr, arith, length-append}
+use Rattle.std.proofs.lemmas.List.{append-nil}
 use Rattle.std.proofs.Math.Nat.{mul-le-mul_left, mul-add, add-mul}
 use Rattle.lfg_model.specs.Lists.{In, here, later}
 use Rattle.lfg_model.specs.RightSides.{RightSide, item, row, one_of, optional, star, plus, RightSides, no_side, and_side}
@@ -13,34 +11,8 @@ use Rattle.lfg_model.specs.Terms.{Name, same_name}
 use Rattle.lfg_model.specs.Thin.{empty_item}
 use Rattle.lfg_model.proofs.ListLaws.{In-append_left, In-append_right, In-append_cases, In-nil, In-one, In-cons_cases}
 use Rattle.lfg_model.proofs.OneTree.{same_some}
+use Rattle.lfg_model.proofs.PartPlaces.{Placed, front_placed, back_placed, whole_placed, item_placed}
 use Rattle.lfg_model.proofs.ThinTreeLaws.{same_from_test}
-
--- ---- the categories of a part among those of the whole
-
-record Placed (all : List Name) (before : ℕ) (own : List Name) : Type 0 where
-  rest : List Name
-  is : drop before all ≡ own ++ rest
-
-front_placed : (all : List Name) (before : ℕ) (xs ys : List Name) → Placed all before (xs ++ ys) → Placed all before xs
-front_placed all before xs ys p = record { rest = ys ++ p.rest; is = p.is ∙ append_assoc xs ys p.rest }
-
-back_placed : (all : List Name) (before : ℕ) (xs ys : List Name) → Placed all before (xs ++ ys) → Placed all (before + length xs) ys
-back_placed all before xs ys p = record {
-  rest = p.rest;
-  is = sym (drop-drop (length xs) before all) ∙ ap (drop (length xs)) (p.is ∙ append_assoc xs ys p.rest) ∙ drop-append_seam xs (ys ++ p.rest);
-}
-
-whole_placed : (all : List Name) → Placed all 0 all
-whole_placed all = record { rest = []; is = sym (append-nil all) }
-
-at_front : (xs : List Name) (n : ℕ) (x : Name) (rest : List Name) → drop n xs ≡ x ∷ rest → slice_get xs n ≡ Some x
-at_front [] zero x rest e = cc
-at_front [] (suc n) x rest e = cc
-at_front (y ∷ xs) zero x rest e = cc
-at_front (y ∷ xs) (suc n) x rest e = at_front xs n x rest e
-
-item_placed : (all : List Name) (before : ℕ) (cat : Name) → Placed all before (cat ∷ []) → category_at all (before + 1) ≡ Some cat
-item_placed all before cat p = rw add-one (at_front all before cat p.rest p.is)
 
 -- ---- rows without a category
 

@@ -28,37 +28,37 @@ use Rattle.lfg_model.proofs.ThinTreeLaws.{same_from_test}
 -- ---- each item stands in a row that is spelled
 
 -- a row that is spelled
-record Some_row (P : List ℕ → Type 0) : Type 0 where
-  row_of : List ℕ
-  spelled : P row_of
+record SomeRow (P : List ℕ → Type 0) : Type 0 where
+  items : List ℕ
+  spelled : P items
 
 -- and in which this item stands
-record Row_with (occ : ℕ) (P : List ℕ → Type 0) : Type 0 where
+record RowWith (occ : ℕ) (P : List ℕ → Type 0) : Type 0 where
   items : List ℕ
   spelled : P items
   there : In occ items
 
 mutual
-  some_row : (side : RightSide) (before : ℕ) → IsFreeSide side → Some_row (SpellsBehind before side)
-  some_row (item cat annotation) before f = record { row_of = (before + 1) ∷ []; spelled = refl }
+  some_row : (side : RightSide) (before : ℕ) → IsFreeSide side → SomeRow (SpellsBehind before side)
+  some_row (item cat annotation) before f = record { items = (before + 1) ∷ []; spelled = refl }
   some_row (row parts) before f = some_rows parts before f
   some_row (one_of branches) before f = some_branch branches before f.0 f.1
-  some_row (optional inside) before f = record { row_of = []; spelled = inl refl }
-  some_row (star inside) before f = record { row_of = []; spelled = no_more }
+  some_row (optional inside) before f = record { items = []; spelled = inl refl }
+  some_row (star inside) before f = record { items = []; spelled = no_more }
   some_row (plus inside) before f =
       let a = some_row inside before f in
-      record { row_of = a.row_of; spelled = record { front = a.row_of; back = []; is = sym (append-nil a.row_of); first = a.spelled; second = no_more } }
+      record { items = a.items; spelled = record { front = a.items; back = []; is = sym (append-nil a.items); first = a.spelled; second = no_more } }
 
-  some_rows : (parts : RightSides) (before : ℕ) → AreFreeSides parts → Some_row (SpellsRow before parts)
-  some_rows no_side before f = record { row_of = []; spelled = refl }
+  some_rows : (parts : RightSides) (before : ℕ) → AreFreeSides parts → SomeRow (SpellsRow before parts)
+  some_rows no_side before f = record { items = []; spelled = refl }
   some_rows (and_side part parts) before f =
       let a = some_row part before f.0 in
       let b = some_rows parts (before + length (categories part)) f.1 in
-      record { row_of = a.row_of ++ b.row_of; spelled = record { front = a.row_of; back = b.row_of; is = refl; first = a.spelled; second = b.spelled } }
+      record { items = a.items ++ b.items; spelled = record { front = a.items; back = b.items; is = refl; first = a.spelled; second = b.spelled } }
 
-  some_branch : (branches : RightSides) (before : ℕ) → HasSide branches → AreFreeSides branches → Some_row (SpellsBranch before branches)
+  some_branch : (branches : RightSides) (before : ℕ) → HasSide branches → AreFreeSides branches → SomeRow (SpellsBranch before branches)
   some_branch no_side before h f = absurd h
-  some_branch (and_side branch branches) before h f = let a = some_row branch before f.0 in record { row_of = a.row_of; spelled = inl a.spelled }
+  some_branch (and_side branch branches) before h f = let a = some_row branch before f.0 in record { items = a.items; spelled = inl a.spelled }
 
 -- the item stands in the first of two parts, or in the second
 in_parts : (before : ℕ) (xs ys : List Name) (occ : ℕ) → before < occ → occ ≤ before + length (xs ++ ys)
@@ -70,7 +70,7 @@ in_parts before xs ys occ l h = go (nat_lt (before + length xs) occ) refl
     go false e = inl (ltb-false (before + length xs) occ e)
 
 mutual
-  row_with : (side : RightSide) (before occ : ℕ) → IsFreeSide side → before < occ → occ ≤ before + length (categories side) → Row_with occ (SpellsBehind before side)
+  row_with : (side : RightSide) (before occ : ℕ) → IsFreeSide side → before < occ → occ ≤ before + length (categories side) → RowWith occ (SpellsBehind before side)
   row_with (item cat annotation) before occ f l h =
       let same : occ ≡ before + 1 = omega (arith, l, h) in
       record { items = (before + 1) ∷ []; spelled = refl; there = (let P : ℕ → Type 0 = λ n. In n ((before + 1) ∷ []) in subst P (sym same) here) }
@@ -82,20 +82,20 @@ mutual
       let a = row_with inside before occ f l h in
       record { items = a.items; spelled = record { front = a.items; back = []; is = sym (append-nil a.items); first = a.spelled; second = no_more }; there = a.there }
 
-  rows_with : (parts : RightSides) (before occ : ℕ) → AreFreeSides parts → before < occ → occ ≤ before + length (categories_of parts) → Row_with occ (SpellsRow before parts)
+  rows_with : (parts : RightSides) (before occ : ℕ) → AreFreeSides parts → before < occ → occ ≤ before + length (categories_of parts) → RowWith occ (SpellsRow before parts)
   rows_with no_side before occ f l h = absurd (omega (arith, l, h))
   rows_with (and_side part parts) before occ f l h = elim (in_parts before (categories part) (categories_of parts) occ l h) [
     | inl k ↦
         let a = row_with part before occ f.0 l k in
         let b = some_rows parts (before + length (categories part)) f.1 in
-        record { items = a.items ++ b.row_of; spelled = record { front = a.items; back = b.row_of; is = refl; first = a.spelled; second = b.spelled }; there = In-append_left b.row_of a.there }
+        record { items = a.items ++ b.items; spelled = record { front = a.items; back = b.items; is = refl; first = a.spelled; second = b.spelled }; there = In-append_left b.items a.there }
     | inr k ↦
         let a = some_row part before f.0 in
         let b = rows_with parts (before + length (categories part)) occ f.1 k.0 k.1 in
-        record { items = a.row_of ++ b.items; spelled = record { front = a.row_of; back = b.items; is = refl; first = a.spelled; second = b.spelled }; there = In-append_right a.row_of b.there }
+        record { items = a.items ++ b.items; spelled = record { front = a.items; back = b.items; is = refl; first = a.spelled; second = b.spelled }; there = In-append_right a.items b.there }
   ]
 
-  branch_with : (branches : RightSides) (before occ : ℕ) → AreFreeSides branches → before < occ → occ ≤ before + length (categories_of branches) → Row_with occ (SpellsBranch before branches)
+  branch_with : (branches : RightSides) (before occ : ℕ) → AreFreeSides branches → before < occ → occ ≤ before + length (categories_of branches) → RowWith occ (SpellsBranch before branches)
   branch_with no_side before occ f l h = absurd (omega (arith, l, h))
   branch_with (and_side branch branches) before occ f l h = elim (in_parts before (categories branch) (categories_of branches) occ l h) [
     | inl k ↦ let a = row_with branch before occ f.0 l k in record { items = a.items; spelled = inl a.spelled; there = a.there }
