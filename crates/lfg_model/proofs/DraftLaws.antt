@@ -1,9 +1,10 @@
 -- A text says one draft at most, or is none for one reason; never both, and always one of them.
-use Rattle.std.proofs.Common.{◌≡◌, ℕ, ◌≤◌, Bool, true, false, ◌⊎◌, inl, inr, Result, Ok, Err, List, length, refl, ap, sym, ◌∙◌, arith}
+use Rattle.std.proofs.Common.{◌≡◌, ℕ, ◌≤◌, Bool, true, false, ◌⊎◌, inl, inr, Option, Some, None, Result, Ok, Err, List, [], ◌∷◌, length, map, refl, ap, sym, ◌∙◌, arith}
 use Rattle.std.specs.Str.{IsUtf8, is_utf8, chars}
 use Rattle.std.specs.Str.Lossy.{utf8_valid_len}
 use Rattle.std.proofs.lemmas.Bool.{false≢true}
 use Rattle.std.proofs.lemmas.Str.{encodes-chars, IsUtf8-from_is_utf8, is_utf8-from_IsUtf8}
+use Rattle.lfg_model.specs.declared.lexeme.Lexeme.{Lexeme}
 use Rattle.lfg_model.specs.declared.token.Token.{Token}
 use Rattle.lfg_model.specs.DraftForms.{DraftForm}
 use Rattle.lfg_model.specs.Drafts.{HasTokens, LexemesFault, Drafts, FileFault, not_utf8, no_token, no_lexemes, HasFault, said, lexemes_of, SomeDraft, OneDraft, OneFault, NeverBoth}

@@ -17,10 +17,10 @@ use Rattle.lfg_model.specs.Nests.{◌>>=◌, readers}
 use Rattle.lfg_model.specs.SchemaNotation.{put_name, schemata}
 use Rattle.lfg_model.specs.RightSideNotation.{side_row, terms}
 use Rattle.lfg_model.specs.DraftForms.{RuleForm, TemplateForm, WordForm, DraftForm}
-use Rattle.lfg_model.specs.EntryNotation.{names_at, empty_name, at_least_one, all_names, one_such, is_name, is_category, put_pair, pairs_at, pair_first, pair_second, pair_end, some_pairs, is_number_key, is_names_key, is_pairs_key, words_of, whole_side, whole_annotation, annotation_of, is_no_parameter, behind_params, template_of, separates, Piece, onto, cut, maybe_annotation, reading_of, readings_of, some_readings, is_in_set, with_setting, with_rule, with_template, with_words, with_entry, entry_read}
-use Rattle.lfg_model.specs.Drafts.{Section, kind_of, behind_kind, section_of, has_kind, new_section, or_number, sections_from, sections_of, Numbered, entries_from, going_on, sections_read, empty_draft, LexemesFault, entries_said, sections_said, said, lexemes_of}
+use Rattle.lfg_model.specs.EntryNotation.{name_before, name_of, names_at, empty_name, at_least_one, all_names, one_name, one_such, is_name, is_category, put_pair, pairs_at, pair_first, pair_second, pair_end, some_pairs, is_number_key, is_names_key, is_pairs_key, words_of, setting_of, whole_side, rule_for, rule_of, whole_annotation, annotation_of, is_no_parameter, template_for, behind_params, template_of, separates, Piece, onto, cut, maybe_annotation, reading_for, reading_of, readings_of, some_readings, word_for, word_of, is_in_set, with_setting, with_rule, with_template, with_words, with_entry, entry_read}
+use Rattle.lfg_model.specs.Drafts.{Section, kind_of, behind_kind, section_of, has_kind, new_section, section_at, or_number, sections_from, sections_of, Numbered, piece_read, entries_from, going_on, sections_read, empty_draft, LexemesFault, entries_said, sections_said, said, HasTokens, lexemes_of, Drafts}
 use Rattle.lfg_model.specs.NotationCases.{IsAnnotation, IsTerms}
-use Rattle.lfg_model.specs.DraftCases.{AreNames, no_name, more_names, ArePairs, no_pair, more_pairs, IsNumberKey, depth, gensize, maxfacts, IsNamesKey, governable, semantic, IsPairsKey, rules, templates, entries, IsSetting, root, number, names, pairs, epsilon, encoding, is_within, IsReading, bare, annotated, AreReadings, last_reading, ended_reading, more_readings, IsEntry, setting, rule, template, template_with, word, AreEntries, no_entry, more_entries, IsKindWord, config, rules_word, templates_word, lexicon, AreSections, no_section, more_sections, AreAllEntries, no_more, and_more, IsFile, DraftsByCases}
+use Rattle.lfg_model.specs.DraftCases.{AreNames, no_name, more_names, ArePairs, no_pair, more_pairs, IsNumberKey, depth, gensize, maxfacts, IsNamesKey, governable, semantic, IsPairsKey, rules, templates, entries, IsSetting, root, number, names, pairs, epsilon, encoding, is_within, IsReading, bare, annotated, AreReadings, last_reading, ended_reading, more_readings, IsEntry, setting, rule, template, template_with, word, AreEntries, no_entry, more_entries, IsKindWord, config, rules_word, templates_word, lexicon, AreSections, no_section, more_sections, AreAllEntries, no_more, and_more, IsFile, IsGrammarFile, DraftsByCases}
 use Rattle.lfg_model.proofs.NestCases.{same_some, bound, row_shorter}
 use Rattle.lfg_model.proofs.SchemaNotationLaws.{schemata_down}
 use Rattle.lfg_model.proofs.SchemaCases.{to_annotation, annotation_from}

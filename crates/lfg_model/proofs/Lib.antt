@@ -35,6 +35,7 @@ pub mod RightSideNotationLaws
 pub mod RightSideViews
 pub mod RoundLaws
 pub mod SchemaCases
+pub mod SchemaViews
 pub mod SchemaNotationLaws
 pub mod Settling
 pub mod SolutionLaws
@@ -79,3 +80,8 @@ pub mod PartPlaces
 pub mod SoundRows
 pub mod SoundWalks
 pub mod SoundLaws
+pub mod ThinExpansion
+pub mod ThinGraphs
+pub mod ThinSizes
+pub mod ThinAssembly
+pub mod ThinLoadLaws

@@ -113,7 +113,7 @@ one_thin_grammar bytes g h r s =
     let d = says_once s.lexemes r.draft s.draft (subst (λ (us : List Lexeme). Says us r.draft) l r.says) s.says in
     gives_once s.draft g h (subst (λ (x : Draft). Gives x g) d r.gives) s.gives
 
-in_row : {xs : List Phrase} {ls : List Lexeme} {p : Phrase} → Row is_nothing (IsEnded IsPhrase) ls xs → In p xs → p.daughters ≢ []
+pub in_row : {xs : List Phrase} {ls : List Lexeme} {p : Phrase} → Row is_nothing (IsEnded IsPhrase) ls xs → In p xs → p.daughters ≢ []
 in_row (done e) r = elim r [ ]
 in_row (more e s r) here = s.is.filled
 in_row (more e s r) (later i) = in_row r i

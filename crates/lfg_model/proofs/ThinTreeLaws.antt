@@ -41,7 +41,7 @@ In-place_of [] k x e = cc
 In-place_of (y ∷ xs) zero x e = rw (← same_some _ _ e) here
 In-place_of (y ∷ xs) (suc k) x e = later (In-place_of xs k x e)
 
-once_places : {X Y : Type 0} (f : X → Y) (xs : List X) → Once (map f xs) → (j k : ℕ) (x y : X) → slice_get xs j ≡ Some x → slice_get xs k ≡ Some y → f x ≡ f y → j ≡ k
+pub once_places : {X Y : Type 0} (f : X → Y) (xs : List X) → Once (map f xs) → (j k : ℕ) (x y : X) → slice_get xs j ≡ Some x → slice_get xs k ≡ Some y → f x ≡ f y → j ≡ k
 once_places f [] o j k x y p q e = cc
 once_places f (z ∷ xs) o zero zero x y p q e = refl
 once_places f (z ∷ xs) (more n o) zero (suc k) x y p q e =
@@ -137,7 +137,7 @@ phrase_from (p ∷ ps) cat r e = go (same_name p.cat cat) refl (phrase_from ps c
         let z = rest (rw t at e) in
         record { phrase = z.phrase; listed = later z.listed; category = z.category; is = z.is }
 
-item_place : (items : List Item) (k : ℕ) (i : Item) → item_at items k ≡ Some i → (j : ℕ) × (slice_get items j ≡ Some i)
+pub item_place : (items : List Item) (k : ℕ) (i : Item) → item_at items k ≡ Some i → (j : ℕ) × (slice_get items j ≡ Some i)
 item_place items zero i e = cc
 item_place items (suc k) i e = (k, e)
 

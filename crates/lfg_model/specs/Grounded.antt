@@ -28,7 +28,8 @@ abbrev pub HasOnlyCategory : Rule → List ℕ → Name → Type 0
 HasOnlyCategory rule [] cat = ⊥
 HasOnlyCategory rule (occ ∷ rest) cat = (IsEmptyItem rule occ × HasOnlyCategory rule rest cat) ⊎ (IsItemOf rule occ cat × AreEmptyItems rule rest)
 
--- a category can be the only daughter of another: the graph of that one's rule walks a row in which it is the only category
+-- A category can be the only daughter of another: the graph of that one's rule walks a row in which
+-- it is the only category.
 abbrev pub Unary : Grammar → Name → Name → Type 0
 Unary g below above = (rule : Rule) × (rule_of g above ≡ Some rule) × ((w : List ℕ) × Walks rule.graph w × HasOnlyCategory rule w below)
 

@@ -20,18 +20,20 @@ pub record Derivable (g : Grammar) (s : List TokenForms) (e : Edge) : Type 0 whe
   pub tree : Tree
   pub derives : Derives g s tree e
 
--- an item of the rule covers the tokens from a place to a place: `e` none, a category those of an edge that can be derived
+-- An item of the rule covers the tokens from a place to a place: `e` none, a category those of an
+-- edge that can be derived.
 pub data Crosses (g : Grammar) (s : List TokenForms) (rule : Rule) (occ : ℕ) : ℕ → ℕ → Type 0 where
   by_none : {at : ℕ} (item : Item) → item_at rule.items occ ≡ Some item → item.cat ≡ None → Crosses g s rule occ at at
   by_edge : {at mid : ℕ} (item : Item) (cat : Name) → item_at rule.items occ ≡ Some item → item.cat ≡ Some cat → Derivable g s (edge cat at mid) → Crosses g s rule occ at mid
 
--- Items of the rule that follow each other from its start, up to this one, cover the tokens from `start`
--- to the place. Item 0 is the start itself.
+-- Items of the rule that follow each other from its start, up to this one, cover the tokens from
+-- `start` to the place. Item 0 is the start itself.
 pub data Reaches (g : Grammar) (s : List TokenForms) (rule : Rule) (start : ℕ) : ℕ → ℕ → Type 0 where
   at_start : Reaches g s rule start 0 start
   go_on : {q at mid : ℕ} (p : ℕ) → Reaches g s rule start q at → CanFollow rule.graph q p → Crosses g s rule p at mid → Reaches g s rule start p mid
 
--- items of the rule that follow this one, up to an end of the rule, cover the tokens from the place to `end`
+-- Items of the rule that follow this one, up to an end of the rule, cover the tokens from the place
+-- to `end`.
 pub data Ends (g : Grammar) (s : List TokenForms) (rule : Rule) (end : ℕ) : ℕ → ℕ → Type 0 where
   at_end : {q : ℕ} → CanEnd rule.graph q → Ends g s rule end q end
   before : {q at mid : ℕ} (p : ℕ) → CanFollow rule.graph q p → Crosses g s rule p at mid → Ends g s rule end p mid → Ends g s rule end q at
@@ -44,7 +46,8 @@ pub data Kept (g : Grammar) (s : List TokenForms) : Edge → Type 0 where
       → Reaches g s rule e.from q at → CanFollow rule.graph q p → item_at rule.items p ≡ Some item → item.cat ≡ Some cat
       → Derivable g s (edge cat at mid) → Ends g s rule e.to p mid → Kept g s (edge cat at mid)
 
--- the lexicon entry has the edge's category, and the edge's token, its only one, has the entry's form
+-- The lexicon entry has the edge's category, and the edge's token, its only one, has the entry's
+-- form.
 pub record IsEntry (g : Grammar) (s : List TokenForms) (e : Edge) (entry : ℕ) : Type 0 where
   pub lex : Lex
   pub listed : slice_get g.lexicon entry ≡ Some lex

@@ -50,3 +50,4 @@ pub mod Fillable
 pub mod ChartRows
 pub mod Charts
 pub mod Picked
+pub mod ThinLoads

@@ -2,6 +2,8 @@
 -- Each comes with the view from the type of the program.
 use Rattle.std.specs.Prelude.{ℕ, Bool, ◌==◌, List, [], ◌∷◌}
 use Rattle.std.specs.Cmp.Lexicographic.{pointwise}
+use Rattle.std.specs.declared.vec.Vec.{Vec}
+use Rattle.std.specs.Global.{Global}
 use Rattle.lfg_terms.specs.declared.grammar.Des.{Des}
 use Rattle.lfg_terms.specs.declared.grammar.Val.{Val}
 use Rattle.lfg_terms.specs.declared.grammar.Schema as declared
@@ -71,6 +73,11 @@ abbrev mutual
 abbrev pub annotation_of : List (declared.Schema Paths) → Annotation
 annotation_of [] = no_schema
 annotation_of (schema ∷ rest) = and_schema (schema_of schema) (annotation_of rest)
+
+-- the branches of a disjunction that a vector holds
+abbrev pub branches_from : List (Vec (declared.Schema Paths) Global) → Branches
+branches_from [] = no_branch
+branches_from (branch ∷ rest) = or_branch (annotation_of branch.items) (branches_from rest)
 
 mutual
   -- A derivation: a c-structure (Kaplan and Bresnan 1982), with the lexicon entry of each word and

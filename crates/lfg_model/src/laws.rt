@@ -12,6 +12,7 @@ ghost use Rattle.lfg_model.specs.Readings.{ClassesHaveOneName, ReadingsAreOne};
 ghost use Rattle.lfg_model.specs.Rounds.{GrowingRoundsSettle, RoundsGiveEqual};
 ghost use Rattle.lfg_model.specs.Solve.{RoundsGiveSolution};
 ghost use Rattle.lfg_model.specs.ThinDrafts.{ThinFilesAreDrafted};
+ghost use Rattle.lfg_model.specs.ThinLoads.{ThinFilesAreLoaded};
 ghost use Rattle.lfg_model.specs.ThinTrees.{OneThinDerivation, ThinLeavesNoChoice};
 ghost use Rattle.lfg_model.specs.Unambiguous.{OneDerivation};
 ghost use Rattle.lfg_model.specs.ThinText.{OneThinGrammar, ThinFilesAreThin};
@@ -102,6 +103,11 @@ pub fn thin_files_have_one_grammar()
 /// the thin file gives its grammar from.
 pub fn thin_files_are_drafted()
     ensures { ThinFilesAreDrafted }
+{}
+
+/// The grammar that a thin file gives is loaded from it.
+pub fn thin_files_are_loaded()
+    ensures { ThinFilesAreLoaded }
 {}
 
 /// A grammar file is not loaded for one reason at most, and for none where a grammar is loaded from it.

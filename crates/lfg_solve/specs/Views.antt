@@ -1,20 +1,13 @@
--- What the program holds, as the definitions see it: the branches of a disjunction, the parts of a
--- derivation, and the instance of an annotation.
+-- What the program holds, as the definitions see it: the parts of a derivation, and the instance of an
+-- annotation.
 use Rattle.std.specs.Prelude.{ℕ, Option, Some, None, List, [], ◌∷◌}
 use Rattle.std.specs.declared.boxed.Box.{Box}
-use Rattle.std.specs.declared.vec.Vec.{Vec}
 use Rattle.std.specs.Global.{Global}
-use Rattle.lfg_terms.specs.declared.grammar.Schema as declared
 use Rattle.lfg_terms.specs.declared.tree.Derivation.{Derivation}
 use Rattle.lfg_terms.specs.declared.tree.Part.{Part}
-use Rattle.lfg_model.specs.Terms.{Paths, Branches, no_branch, or_branch, annotation_of, Parts, no_part, empty, daughter, tree_of}
+use Rattle.lfg_model.specs.Terms.{Parts, no_part, empty, daughter, tree_of}
 use Rattle.lfg_model.specs.Resolve.{Instance}
 use Rattle.lfg_solve.specs.declared.resolve.Instance as held
-
--- the branches of a disjunction
-abbrev pub branches_from : List (Vec (declared.Schema Paths) Global) → Branches
-branches_from [] = no_branch
-branches_from (branch ∷ rest) = or_branch (annotation_of branch.items) (branches_from rest)
 
 -- a part before others: an empty item, or a daughter
 abbrev pub part_before : ℕ → List ℕ → Option (Box Derivation Global) → Parts → Parts

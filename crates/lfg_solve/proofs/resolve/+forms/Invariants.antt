@@ -1,7 +1,7 @@
 use Rattle.std.proofs.Common.{◌≡◌, ◌+◌, ◌-◌, ◌^◌, ◌<◌, min, drop}
 use Rattle.lfg_model.specs.Places.{form_count, branch_forms}
 use Rattle.lfg_model.specs.Terms.{annotation_of}
-use Rattle.lfg_solve.specs.Views.{branches_from}
+use Rattle.lfg_model.specs.Terms.{branches_from}
 use Rattle.lfg_solve.proofs.resolve.+forms.Given as goal
 
 abbrev pub invariant-forms-loop-schema : goal.invariant-forms-loop-schema

@@ -1,7 +1,7 @@
 use Rattle.std.proofs.Common.{ap, length, arith}
 use Rattle.lfg_model.specs.Places.{schema_places, branch_places}
-use Rattle.lfg_solve.specs.Views.{branches_from}
-use Rattle.lfg_solve.proofs.ViewLaws.{either_schema, maybe_schema}
+use Rattle.lfg_model.specs.Terms.{branches_from}
+use Rattle.lfg_model.proofs.SchemaViews.{either_schema, maybe_schema}
 use Rattle.std.proofs.lemmas.List.{at_drop_all}
 use Rattle.lfg_solve.proofs.resolve.+places.Goals as goal
 

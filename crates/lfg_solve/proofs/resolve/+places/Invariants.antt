@@ -1,7 +1,7 @@
 use Rattle.std.proofs.Common.{◌≡◌, ◌+◌, ◌-◌, ◌^◌, ◌<◌, min, length, drop}
 use Rattle.lfg_model.specs.Places.{places, branch_places}
 use Rattle.lfg_model.specs.Terms.{annotation_of}
-use Rattle.lfg_solve.specs.Views.{branches_from}
+use Rattle.lfg_model.specs.Terms.{branches_from}
 use Rattle.lfg_solve.proofs.resolve.+places.Given as goal
 
 abbrev pub invariant-places-loop-schema : goal.invariant-places-loop-schema

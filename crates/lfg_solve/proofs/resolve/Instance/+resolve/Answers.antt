@@ -6,8 +6,9 @@ use Rattle.std.proofs.lemmas.Result.{on_ok_weaker}
 use Rattle.lfg_terms.specs.declared.grammar.Schema as declared
 use Rattle.lfg_model.specs.Places.{places}
 use Rattle.lfg_model.specs.Terms.{Paths, annotation_of, schema_of, or_branch}
-use Rattle.lfg_solve.specs.Views.{instance_of, branches_from}
-use Rattle.lfg_solve.proofs.ViewLaws.{either_schema, maybe_schema}
+use Rattle.lfg_model.specs.Terms.{branches_from}
+use Rattle.lfg_solve.specs.Views.{instance_of}
+use Rattle.lfg_model.proofs.SchemaViews.{either_schema, maybe_schema}
 use Rattle.lfg_solve.proofs.ResolveLaws.{option_taken, branch_taken, branches_past}
 use Rattle.lfg_solve.proofs.resolve.Instance.+resolve.Goals as goal
 

@@ -2,7 +2,8 @@ use Rattle.std.proofs.Common.{◌≡◌, ◌+◌, ◌^◌, ◌<◌, ◌++◌, dr
 use Rattle.lfg_model.specs.Places.{form_count, branch_forms}
 use Rattle.lfg_model.specs.Resolve.{resolved, branch_literals}
 use Rattle.lfg_model.specs.Terms.{annotation_of}
-use Rattle.lfg_solve.specs.Views.{instance_of, branches_from}
+use Rattle.lfg_model.specs.Terms.{branches_from}
+use Rattle.lfg_solve.specs.Views.{instance_of}
 use Rattle.lfg_solve.proofs.resolve.Instance.+resolve.Given as goal
 
 abbrev pub invariant-push_resolved-loop-schema : goal.invariant-push_resolved-loop-schema

@@ -1,0 +1,4 @@
+pub mod Fails
+pub mod Numbers
+pub mod Keys
+pub mod Loading
