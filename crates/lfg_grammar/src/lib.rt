@@ -3,14 +3,17 @@
 #![tactic(auto)]
 
 mod annotations;
-mod items;
-mod rules;
 mod bad_paths;
 mod both;
 mod categories;
-mod links;
-mod settings;
-mod words;
 mod cycles;
+mod faults;
+mod items;
+mod links;
+mod parts;
 mod reach;
+mod rules;
+mod settings;
 mod unary;
+mod words;
+
