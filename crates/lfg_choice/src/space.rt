@@ -1,4 +1,4 @@
-ghost use Rattle.std.specs.Prelude.{◌≡◌, ◌<◌, ◌≤◌, ◌++◌, ◌∷◌, [], Some, IfOk, OnOk, OnErr, length, slice_get};
+ghost use Rattle.std.specs.Prelude.{◌≡◌, ℕ, ◌<◌, ◌≤◌, ◌++◌, ◌∷◌, [], Some, IfOk, OnOk, OnErr, length, slice_get};
 ghost use Rattle.std.specs.Option.{option_map};
 ghost use Rattle.lfg_choice.specs.Choices.{alternatives_of};
 
@@ -55,7 +55,8 @@ impl ChoiceSpace {
 
     /// How many choices there are. Takes no memory.
     pub fn len(&self) -> u32
-        ensures { result ≡ length self.now }
+        ensures value { result ≡ length self.now }
+        ensures two { (c : ℕ) → c < length self.now → 2 ≤ alternatives_of self.now c }
     {
         self.choices.len() as u32
     }
@@ -65,6 +66,7 @@ impl ChoiceSpace {
         requires { choice < length self.now }
         ensures value { result ≡ alternatives_of self.now choice }
         ensures two { 2 ≤ result }
+        ensures room { length self.now ≤ 4294967295 }
     {
         self.choices[choice as usize].alternatives
     }
