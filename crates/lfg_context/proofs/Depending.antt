@@ -64,7 +64,7 @@ first_before {n} {c} {x} d f = elim (split c n) [ inl less ↦ less | inr past �
 
 -- a choice of the space that was picked has there the number of its alternatives
 pub arity_in_space : {k : Known} {space : List Choice} (c : ℕ) → HasPicksOf k space → c < length space → 2 ≤ arity_of k c → arity_of k c ≡ alternatives_of space c
-arity_in_space {k} {space} c p h two = elim (p.agrees c h) [ inl none ↦ absurd (omega arith) | inr is ↦ is ]
+arity_in_space {k} {space} c p h two = p.agrees c h (λ none. omega arith)
 
 -- a set of the choices of the space
 pub over_space : {k : Known} {space : List Choice} {x : Set} → IsMade k x → HasPicksOf k space → DependsOnFirst (length space) x → IsOver k space x
@@ -112,10 +112,10 @@ exchanged c alt e a v other = fun_ext (λ k. at_choice k)
     at_choice k = grind arith
 
 -- a child depends on no choice that its set does not depend on
-pub depends_child : {k : Known} {n : ℕ} {x z : Set} (c alt : ℕ) → DependsOnFirst n x → IsSetOf k z (λ b. member x (set_at b c alt)) → DependsOnFirst n z
-depends_child {k} {n} {x} {z} c alt d is = record {
+pub depends_child : {n : ℕ} {x z : Set} (c alt : ℕ) → DependsOnFirst n x → ((b : Assignment) → member z b ≡ member x (set_at b c alt)) → DependsOnFirst n z
+depends_child {n} {x} {z} c alt d is = record {
   blind = λ e h a v.
-      is.members a ∙ by_place e h a v (split e c) ∙ sym (is.members (set_at a e v));
+      is a ∙ by_place e h a v (split e c) ∙ sym (is (set_at a e v));
 }
   where
     split : (e c : ℕ) → (e ≡ c) ⊎ (e ≡ c → ⊥)

@@ -60,7 +60,18 @@ pub same_picks_trans : {k l m : Known} → HasSamePicks k l → HasSamePicks l m
 same_picks_trans {k} {l} {m} p q = record { arities = λ c. q.arities c ∙ p.arities c }
 
 pub picks_kept : {k l : Known} {space : List Choice} → HasSamePicks k l → HasPicksOf k space → HasPicksOf l space
-picks_kept {k} {l} {space} p q = record { agrees = λ c h. (let P : ℕ → Type 0 = λ v. (v ≡ 0) ⊎ (v ≡ alternatives_of space c) in subst P (sym (p.arities c)) (q.agrees c h)) }
+picks_kept {k} {l} {space} p q = record { agrees = λ c h some. p.arities c ∙ q.agrees c h (λ none. some (p.arities c ∙ none)) }
+
+-- contexts that have picked nothing agree with each space
+pub no_picks : {k : Known} (space : List Choice) → ((c : ℕ) → arity_of k c ≡ 0) → HasPicksOf k space
+no_picks {k} space none = record { agrees = λ c h some. absurd (some (none c)) }
+
+-- the condition of `pick`, where the picks so far agree with the space
+pub pickable : {k : Known} {space : List Choice} (c : ℕ) → HasPicksOf k space → c < length space → (arity_of k c ≡ 0) ⊎ (arity_of k c ≡ alternatives_of space c)
+pickable {k} {space} c p h = elim (split (arity_of k c)) [ inl none ↦ inl none | inr some ↦ inr (p.agrees c h some) ]
+  where
+    split : (n : ℕ) → (n ≡ 0) ⊎ (n ≡ 0 → ⊥)
+    split n = grind arith
 
 -- the sets of a list of things
 pub are_made_grown : {X : Type 0} {k l : Known} {set_of : X → Set} {xs : List X} → IsGrown k l → AreMade k set_of xs → AreMade l set_of xs
@@ -96,6 +107,13 @@ In-set_cases {X} (z ∷ zs) (suc i) x y h = tail (λ w. In-set_cases zs i x y w)
     tail ih (inl e) = inr (let P : X → Type 0 = λ v. In v (z ∷ zs) in subst P (sym e) here)
     tail ih (inr rest) = elim (ih rest) [ inl e ↦ inl e | inr w ↦ inr (later w) ]
 
+-- the same for a list of sets, and for a list of pairs with a set behind
+pub set_made_at : {k : Known} {xs : List Set} (i : ℕ) (x : Set) → AreMade k (λ v. v) xs → i < length xs → x ≡ get_or xs i x → IsMade k x
+set_made_at {k} {xs} i x m h e = made_at i x m h e
+
+pub pair_made_at : {X : Type 0} {k : Known} {xs : List (X × Set)} (i : ℕ) (x : X × Set) → AreMade k (λ v. v.1) xs → i < length xs → x ≡ get_or xs i x → IsMade k x.1
+pair_made_at {X} {k} {xs} i x m h e = made_at i x m h e
+
 pub are_made_set : {X : Type 0} {k : Known} {set_of : X → Set} {xs : List X} (i : ℕ) (x : X) → AreMade k set_of xs → IsMade k (set_of x) → AreMade k set_of (slice_set xs i x)
 are_made_set {X} {k} {set_of} {xs} i x m one = record {
   each = λ y h. elim (In-set_cases xs i x y h) [
@@ -105,4 +123,4 @@ are_made_set {X} {k} {set_of} {xs} i x m one = record {
 }
 
 -- Lemmas for a function that calls `and`, `or`, .. while it keeps other sets.
-pub ruleset growing = (made_grown, grown_trans, grown_refl, same_picks_trans, same_picks_refl, picks_kept, are_made_grown, are_made_nil, are_made_push, are_made_set, made_of, made_at)
+pub ruleset growing = (made_grown, grown_trans, grown_refl, same_picks_trans, same_picks_refl, picks_kept, no_picks, pickable, are_made_grown, are_made_nil, are_made_push, are_made_set, set_made_at, pair_made_at)

@@ -151,21 +151,20 @@ pub picks_by : (k : Known) (es fs : List Entry) (as' bs : List ℕ) (space : Lis
     → ((c : ℕ) → c ≢ choice → arity_in bs c ≡ arity_in as' c) → (arity_in bs choice ≡ arity_in as' choice) ⊎ (arity_in bs choice ≡ n)
     → HasPicksOf k space → HasPicksOf (seen fs bs) space
 unfolding arity_of
-picks_by k es fs as' bs space choice n e en others kept picks = record {
-  agrees = (λ c h.
-      let was : (arity_in as' c ≡ 0) ⊎ (arity_in as' c ≡ alternatives_of space c) = (let P : Known → Type 0 = λ v. (get_or v.1 c 0 ≡ 0) ⊎ (get_or v.1 c 0 ≡ alternatives_of space c) in subst P (sym e) (picks.agrees c h)) in
-      let P : ℕ → Type 0 = λ v. (v ≡ 0) ⊎ (v ≡ alternatives_of space c) in
-      elim (split c choice) [
-        | inr other ↦ subst P (sym (others c other)) was
-        | inl here ↦ elim kept [
-          | inl same ↦ subst P (sym (ap (arity_in bs) here ∙ same ∙ ap (arity_in as') (sym here))) was
-          | inr is ↦ inr (ap (arity_in bs) here ∙ is ∙ en ∙ ap (alternatives_of space) (sym here))
-        ]
-      ]);
-}
+picks_by k es fs as' bs space choice n e en others kept picks = record { agrees = λ c h some. by_choice c h some (split c choice) }
   where
     split : (k c : ℕ) → (k ≡ c) ⊎ (k ≢ c)
     split k c = grind arith
+
+    was : (c : ℕ) → c < length space → arity_in as' c ≢ 0 → arity_in as' c ≡ alternatives_of space c
+    was c h some = let P : Known → Type 0 = λ v. get_or v.1 c 0 ≢ 0 → get_or v.1 c 0 ≡ alternatives_of space c in subst P (sym e) (picks.agrees c h) some
+
+    by_choice : (c : ℕ) → c < length space → arity_in bs c ≢ 0 → (c ≡ choice) ⊎ (c ≢ choice) → arity_in bs c ≡ alternatives_of space c
+    by_choice c h some (inr other) = others c other ∙ was c h (λ none. some (others c other ∙ none))
+    by_choice c h some (inl here) = elim kept [
+      | inl same ↦ (let eq : arity_in bs c ≡ arity_in as' c = ap (arity_in bs) here ∙ same ∙ ap (arity_in as') (sym here) in eq ∙ was c h (λ none. some (eq ∙ none)))
+      | inr is ↦ ap (arity_in bs) here ∙ is ∙ en ∙ ap (alternatives_of space) (sym here)
+    ]
 
 pub consistent_in : (k : Known) (es : List Entry) (as' : List ℕ) (choice n m : ℕ) → seen es as' ≡ k → n ≡ m → (arity_of k choice ≡ 0) ⊎ (arity_of k choice ≡ m) → (arity_in as' choice ≡ 0) ⊎ (arity_in as' choice ≡ n)
 consistent_in k es as' choice n m e en was =

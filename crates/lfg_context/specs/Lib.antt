@@ -6,3 +6,4 @@ pub mod Tables
 pub mod Ops
 pub mod Least
 pub mod Sets
+pub mod Props

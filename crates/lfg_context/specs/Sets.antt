@@ -1,5 +1,5 @@
 -- Sets of assignments, as contracts speak of them.
-use Rattle.std.specs.Prelude.{◌≡◌, ℕ, ◌+◌, ◌<◌, ◌≤◌, ◌⊎◌, Bool, true, false, List, [], ◌∷◌, length, map, slice_index, slice_index_or}
+use Rattle.std.specs.Prelude.{◌≡◌, ◌≢◌, ℕ, ◌+◌, ◌<◌, ◌≤◌, ◌⊎◌, Bool, true, false, List, [], ◌∷◌, length, map, slice_index, slice_index_or}
 use Rattle.lfg_terms.specs.declared.choice.Choice.{Choice}
 use Rattle.lfg_choice.specs.Choices.{alternatives_of}
 use Rattle.lfg_model.specs.Lists.{In}
@@ -65,7 +65,7 @@ pub record AreMade {X : Type 0} (k : Known) (set_of : X → Set) (xs : List X) :
 -- Each choice of the space that these contexts have picked was picked with its number of alternatives
 -- in the space.
 pub record HasPicksOf (k : Known) (space : List Choice) : Type 0 where
-  pub agrees : (c : ℕ) → c < length space → (arity_of k c ≡ 0) ⊎ (arity_of k c ≡ alternatives_of space c)
+  pub agrees : (c : ℕ) → c < length space → arity_of k c ≢ 0 → arity_of k c ≡ alternatives_of space c
 
 -- no assignment is in the set, or each one is
 abbrev pub IsConstant : Set → Type 0

@@ -225,7 +225,8 @@ impl Contexts {
         requires made { IsMade self.now a.now }
         requires some { IsConstant a.now → ⊥ }
         requires alternative_in { (c : ℕ) → IsFirstChoice a.now c → alt < arity_of self.now c }
-        ensures { IfOk result (λ x. (c : ℕ) → IsFirstChoice a.now c → IsSetOf self.now x (λ b. member a.now (set_at b c alt))) }
+        ensures made { IfOk result (IsMade self.now) }
+        ensures members { IfOk result (λ x. (c : ℕ) → IsFirstChoice a.now c → (b : Assignment) → member x b ≡ member a.now (set_at b c alt)) }
     {
         let arities = self.arities.as_slice();
         let number = a.number();

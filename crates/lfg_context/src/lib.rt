@@ -13,6 +13,8 @@ mod nodes;
 mod op;
 mod operations;
 mod picks;
+#[cfg(test)]
+mod tests;
 
 pub use contexts::Contexts;
 pub use ctx::Ctx;
