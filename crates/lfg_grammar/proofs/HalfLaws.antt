@@ -105,6 +105,7 @@ done_more {hs} {h} {old} {new} u d e l = record { each = λ depth rs x. go depth
   where
     bad : (r : RuleForm) → HasGraph r.side u.graph → ¬ IsBadSide r
     bad r g b = elim b [ inl s ↦ g.repeats s | inr t ↦ g.filled t ]
+
     last : (depth : ℕ) (rs : List RuleForm) (front back : List RuleForm) → rs ≡ front ++ back → Each (IsHalf depth) front hs → Each (IsHalf depth) back (h ∷ []) → Done depth rs new
     last depth rs front [] q f b = elim b [ ]
     last depth rs front (r ∷ s ∷ back) q f (and x b) = elim b [ ]
@@ -115,6 +116,7 @@ done_more {hs} {h} {old} {new} u d e l = record { each = λ depth rs x. go depth
           loaded = subst (λ (us : List Rule). Each (LoadsRule depth) rs us) (sym e) (subst (λ (qs : List RuleForm). Each (LoadsRule depth) qs (old ++ u ∷ [])) (sym q) (each_push done.loaded one));
           good = λ s i. elim (In-append_cases front (r ∷ []) (subst (λ (qs : List RuleForm). In s qs) q i)) [ inl a ↦ done.good s a | inr c ↦ subst (λ (z : RuleForm). ¬ IsBadSide z) (sym (In-one c)) (bad r one.graph) ];
         }
+
     go : (depth : ℕ) (rs : List RuleForm) → Parted depth rs hs (h ∷ []) → Done depth rs new
     go depth rs p = last depth rs p.front p.back p.is p.first_part p.second_part
 
@@ -131,8 +133,10 @@ done_fails {hs} {h} ks {all} {old} f d e l depth rs x = go (parted depth rs hs (
     at r front back _ q done (star_fault s) = record { rule = r; is_first = subst (λ (qs : List RuleForm). First IsBadSide qs r) (sym q) (first_behind front r back done.good (inl s)); named = refl; fails = s }
     at r front back _ q done (whole n s) = record { rule = r; is_first = subst (λ (qs : List RuleForm). First IsBadSide qs r) (sym q) (first_behind front r back done.good (inr s)); named = refl; fails = n }
     at r front back _ q done memory = tt
+
     split : (front back : List RuleForm) → rs ≡ front ++ back → Each (IsHalf depth) front hs → Each (IsHalf depth) back (h ∷ ks) → IsSideFault rs f
     split front [] q a b = elim b [ ]
     split front (r ∷ back) q a (and y b) = at r front back f q (d.each depth front a) (l depth r y)
+
     go : Parted depth rs hs (h ∷ ks) → IsSideFault rs f
     go p = split p.front p.back p.is p.first_part p.second_part

@@ -61,6 +61,7 @@ module _ (ss : List Setting) (i : ℕ) (s : Setting) (l : i < length ss) (e : s 
     where
       to : In k (s.key ∷ earlier) → In k (map (λ x. x.key) (take (i + 1) ss))
       to h = more_in (λ (x : Setting). x.key) k ss i s l e (elim (In-cons_cases h) [ inl a ↦ inr a | inr b ↦ inl ((keys k).0 b) ])
+
       from : In k (map (λ x. x.key) (take (i + 1) ss)) → In k (s.key ∷ earlier)
       from h = elim (in_more (λ (x : Setting). x.key) k ss i s l e h) [ inl a ↦ later ((keys k).1 a) | inr b ↦ subst (λ (n : Name). In k (n ∷ earlier)) b here ]
 

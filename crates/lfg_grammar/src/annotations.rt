@@ -12,11 +12,7 @@ use lfg_terms::{Des, PathExpr, Paths, Schema, Val};
 use std::alloc::Global;
 
 /// The strings of the path, if there is one.
-fn load_path(
-    alloc: Global,
-    path: &Option<PathExpr>,
-    depth: u8,
-) -> Result<Option<Paths>, PathFault>
+fn load_path(alloc: Global, path: &Option<PathExpr>, depth: u8) -> Result<Option<Paths>, PathFault>
     requires { IsRange depth }
     ensures { PathAs depth (option_map expression_of path.now) result }
 {

@@ -16,4 +16,3 @@ mod rules;
 mod settings;
 mod unary;
 mod words;
-

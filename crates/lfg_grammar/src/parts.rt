@@ -38,12 +38,7 @@ pub(crate) fn load_parts(alloc: Global, plain: &Plain, depth: u8) -> Result<Part
 }
 
 /// The fault of a draft of which a path fails, or want of memory.
-pub(crate) fn bad_path(
-    alloc: Global,
-    plain: &Plain,
-    depth: u8,
-    fault: PathFault,
-) -> GrammarFault
+pub(crate) fn bad_path(alloc: Global, plain: &Plain, depth: u8, fault: PathFault) -> GrammarFault
     requires range { IsRange depth }
     requires fails { PartsAs depth (plain_form plain.now) (Err fault) }
     ensures { IsPathFault depth (plain_form plain.now) result }
@@ -54,9 +49,7 @@ pub(crate) fn bad_path(
     let Ok(found) = first_bad_path(alloc, plain, depth) else {
         return GrammarFault::Memory;
     };
-    let Some(bad) = found else {
-        unreachable!()
-    };
+    let Some(bad) = found else { unreachable!() };
     path_fault(bad.entry, bad.fault)
 }
 

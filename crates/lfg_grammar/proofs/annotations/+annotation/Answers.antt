@@ -73,5 +73,5 @@ load_schema-returns-in_ok-load_annotation-in-Maybe t c =
 pub load_schema-returns-after-loop-branch : goal.load_schema-returns-after-loop-branch
 load_schema-returns-after-loop-branch t c =
     let done = subst (λ (xs : List (Vec (Schema PathExpr) Global)). LoadsBranches c.args.depth (drafted xs) (branches_from c.loop-branch.out.items))
-        (take_all c.loop-branch.branch-index c.deref-branch-items.result.now (omega arith) ∙ c.deref-branch-items.ensures.value) c.loop-branch.invariant in
+    (take_all c.loop-branch.branch-index c.deref-branch-items.result.now (omega arith) ∙ c.deref-branch-items.ensures.value) c.loop-branch.invariant in
     disjunction_loads c.args.depth c.args.schema.now c.in-Either.branches c.disjunction_of.result c.loop-branch.out.items c.in-Either.is c.disjunction_of.ensures done
