@@ -13,7 +13,7 @@ use crate::unary::only_daughters;
 use lfg_terms::{Grammar, Name, Rule};
 use std::alloc::{AllocError, Global};
 
-/// The place of the category in the list of all, from 0.
+/// The place of the category in the list of all, from 0. It stands there, so the search finds it.
 fn place_of(cats: &[Name], cat: &Name) -> usize
     requires sorted { IsStrictlySortedBy name_cmp cats.now }
     requires among { In cat.now cats.now }
@@ -65,8 +65,8 @@ fn category_links(alloc: Global, cats: &[Name], rules: &[Rule]) -> Result<Vec<Li
 }
 
 /// Ranks for the numbers of a table, from its links and from the same links the other way: each
-/// number from which no cycle is reached has a rank above those that it is linked to. The others
-/// have 0.
+/// number from which no cycle is reached has a rank above those that it is linked to, and the others
+/// have 0 (topological order, after Kahn 1962). `ranks_fall` checks them.
 fn ranks_from(
     alloc: Global,
     next: &[Vec<usize>],
@@ -148,7 +148,7 @@ fn ranks_fall(next: &[Vec<usize>], ranks: &[usize]) -> bool
     true
 }
 
-/// Ranks of the places that fall along the links, where a place may have none.
+/// Ranks of the places that fall along the links. A place from which a cycle is reached has none.
 fn falling_ranks(
     alloc: Global,
     next: &[Vec<usize>],
@@ -223,6 +223,9 @@ fn first_on_cycle(
 
 /// The place among the rules, from 0, of the first whose category can be its own only daughter,
 /// directly or through others.
+///
+/// Each link of the rules' graphs is read a fixed number of times, and each link between categories
+/// once more for each category that is above one cycle and below another.
 ///
 /// # Errors
 ///

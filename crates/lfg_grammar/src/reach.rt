@@ -99,7 +99,8 @@ fn mark_all(
     Ok(())
 }
 
-/// A mark for each number of the table: whether it is a start, or a start leads to it.
+/// A mark for each number of the table: whether it is a start, or a start leads to it. Each list is
+/// read once at most.
 pub(crate) fn reached(
     alloc: Global,
     next: &[Vec<usize>],
