@@ -14,3 +14,8 @@ pub mod UnaryLaws
 pub mod Unlinkable
 pub mod WordCategories
 pub mod WordLaws
+pub mod PartLaws
+pub mod PlainCalls
+pub mod CheckLaws
+pub mod RefusalLaws
+pub mod GoodPaths

@@ -1,6 +1,7 @@
 pub mod Answers
 pub mod BadPaths
 pub mod Categories
+pub mod Checks
 pub mod Cycles
 pub mod Found
 pub mod Halves

@@ -6,13 +6,18 @@ mod annotations;
 mod bad_paths;
 mod both;
 mod categories;
+mod checks;
 mod cycles;
 mod faults;
 mod items;
 mod links;
+mod load;
 mod parts;
 mod reach;
 mod rules;
 mod settings;
 mod unary;
 mod words;
+
+pub use lfg_model::GrammarFault;
+pub use load::load_grammar;

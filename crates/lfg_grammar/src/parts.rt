@@ -1,9 +1,8 @@
 ghost use Rattle.std.specs.Prelude.{◌≡◌, ℕ, IfOk, IfErr, List, map};
 ghost use Rattle.lfg_terms.specs.Order.{name_cmp};
 ghost use Rattle.lfg_model.specs.DraftForms.{PlainForm, plain_form};
-ghost use Rattle.lfg_model.specs.Loads.{Assembles, IsPlainDraft};
-ghost use Rattle.lfg_model.specs.Settings.{AreSettings};
-ghost use Rattle.lfg_grammar.specs.Answers.{IsRange};
+ghost use Rattle.lfg_model.specs.Loads.{Assembles, draft_paths};
+ghost use Rattle.lfg_grammar.specs.Answers.{FailsIn, IsRange, SomeBad, path_of_entry};
 ghost use Rattle.lfg_grammar.specs.Halves.{IsSideFault};
 ghost use Rattle.lfg_grammar.specs.Parts.{IsWithoutCalls, ArePartsOf, PartsAs, IsPathFault};
 ghost use Rattle.lfg_grammar.specs.Read.{AreRead};
@@ -37,20 +36,30 @@ pub(crate) fn load_parts(alloc: Global, plain: &Plain, depth: u8) -> Result<Part
     Ok(Parts { rules, words })
 }
 
+/// The fault of the first path that fails, or want of memory.
+fn first_fault(alloc: Global, plain: &Plain, depth: u8) -> GrammarFault
+    requires range { IsRange depth }
+    requires some { SomeBad depth (map path_of_entry (draft_paths (plain_form plain.now))) }
+    ensures { IsPathFault depth (plain_form plain.now) result }
+{
+    match first_bad_path(alloc, plain, depth) {
+        Ok(Some(bad)) => path_fault(bad.entry, bad.fault),
+        Ok(None) => unreachable!(),
+        Err(_) => GrammarFault::Memory,
+    }
+}
+
 /// The fault of a draft of which a path fails, or want of memory.
 pub(crate) fn bad_path(alloc: Global, plain: &Plain, depth: u8, fault: PathFault) -> GrammarFault
     requires range { IsRange depth }
-    requires fails { PartsAs depth (plain_form plain.now) (Err fault) }
+    requires fails { FailsIn depth (map path_of_entry (draft_paths (plain_form plain.now))) fault }
     ensures { IsPathFault depth (plain_form plain.now) result }
 {
-    if fault == PathFault::Memory {
-        return GrammarFault::Memory;
+    match fault {
+        PathFault::TooManyPaths => first_fault(alloc, plain, depth),
+        PathFault::NoPath => first_fault(alloc, plain, depth),
+        PathFault::Memory => GrammarFault::Memory,
     }
-    let Ok(found) = first_bad_path(alloc, plain, depth) else {
-        return GrammarFault::Memory;
-    };
-    let Some(bad) = found else { unreachable!() };
-    path_fault(bad.entry, bad.fault)
 }
 
 /// The grammar of these settings and parts.

@@ -85,7 +85,7 @@ fn came_before(earlier: &[Setting], key: &Name) -> bool
 }
 
 /// The number of the first entry whose key came before, or whose number is out of range.
-pub(crate) fn first_bad(settings: &[Setting]) -> Option<u32>
+fn first_bad(settings: &[Setting]) -> Option<u32>
     ensures { MatchOption result (NoneHas IsBadSetting (placed settings.now))
         (λ entry. (p : Placed) × First IsBadSetting (placed settings.now) p × (p.setting.entry ≡ entry)) }
 {
@@ -176,7 +176,7 @@ pub(crate) struct Settings {
 }
 
 /// The fault of the settings, if they have one.
-fn fault_of(settings: &[Setting]) -> Option<u32>
+pub(crate) fn fault_of(settings: &[Setting]) -> Option<u32>
     ensures { MatchOption result (AreSettings settings.now) (HasBadSetting settings.now) }
 {
     if let Some(entry) = first_bad(settings) {
@@ -198,7 +198,7 @@ fn depth_of(settings: &[Setting]) -> u8
 }
 
 /// What the settings say.
-fn read_settings(alloc: Global, settings: &[Setting]) -> Result<Settings, AllocError>
+pub(crate) fn read_settings(alloc: Global, settings: &[Setting]) -> Result<Settings, AllocError>
     requires { AreSettings settings.now }
     ensures { IfOk result (AreRead settings.now) }
 {
