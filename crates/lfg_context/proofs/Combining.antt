@@ -1,4 +1,4 @@
-use Rattle.std.proofs.Common.{◌≡◌, ℕ, zero, suc, ◌+◌, ◌-◌, ◌<◌, ◌≤◌, ◌⊎◌, inl, inr, true, false, ◌==◌, List, [], ◌∷◌, ◌++◌, length, map, min, get_or, refl, sym, ◌∙◌, ap, subst, arith}
+use Rattle.std.proofs.Common.{◌≡◌, ℕ, ◌+◌, ◌-◌, ◌<◌, ◌≤◌, ◌⊎◌, inl, inr, List, [], ◌∷◌, ◌++◌, length, map, min, get_or, refl, sym, ◌∙◌, ap, subst, arith}
 use Rattle.std.proofs.lemmas.List.{get_or-map, length-map, get_or_default, get_or_append_left, get_or_push, length-append}
 use Rattle.std.proofs.lemmas.List.Elements.{All-push, All-weaker}
 use Rattle.lfg_context.specs.Tables.{Entry}
@@ -9,7 +9,6 @@ use Rattle.lfg_context.specs.Ops.{op_of, IsCombined, AreCombined, TestsAt, IsFir
 use Rattle.lfg_context.proofs.Canonical.{Cubes, AllOf-from}
 use Rattle.lfg_context.proofs.TestLaws.{lowered, test_reads, blind_before}
 use Rattle.lfg_context.proofs.TableLaws.{cubes_at-node}
-use Rattle.lfg_context.proofs.Children.{terminal_proper}
 use Rattle.lfg_context.proofs.Making.{entry_at}
 
 -- what a number tests first stays
@@ -67,28 +66,6 @@ not_before es ar d c n m at p = elim (split n c) [ inl le ↦ le | inr lt ↦ ab
   where
     split : (n c : ℕ) → (n ≤ c) ⊎ (c < n)
     split n c = grind arith
-
--- the two sets without a node
-pub combined_terminal : (es : List Entry) (ar : ℕ → ℕ) (d : ℕ) (op : Op) (i j n : ℕ) → i < 2 → j < 2 → n < 2
-    → (n ≡ 1 → op_of op (i == 1) (j == 1) ≡ true) → (n ≡ 0 → op_of op (i == 1) (j == 1) ≡ false) → IsCombined es es ar d op i j n
-combined_terminal es ar d op i j n hi hj hn full none = record {
-  number = omega arith;
-  members = (λ a. is_bool n a hn ∙ answer n hn full none ∙ sym (ap (λ v. op_of op v (in_cubes (cubes_at es j) a)) (is_bool i a hi) ∙ ap (λ v. op_of op (i == 1) v) (is_bool j a hj)));
-  proper = (λ c hc p q. terminal_proper es ar d c n hn);
-}
-  where
-    is_bool : (m : ℕ) (a : ℕ → ℕ) → m < 2 → in_cubes (cubes_at es m) a ≡ (m == 1)
-    is_bool zero a h = refl
-    is_bool (suc zero) a h = refl
-    is_bool (suc (suc m)) a h = absurd (omega arith)
-
-    answer : (m : ℕ) → m < 2 → (m ≡ 1 → op_of op (i == 1) (j == 1) ≡ true) → (m ≡ 0 → op_of op (i == 1) (j == 1) ≡ false) → (m == 1) ≡ op_of op (i == 1) (j == 1)
-    answer zero h y z = sym (z refl)
-    answer (suc zero) h y z = sym (y refl)
-    answer (suc (suc m)) h y z = absurd (omega arith)
-
-pub none_combined : (es : List Entry) (ar : ℕ → ℕ) (d c : ℕ) (op : Op) (i j : ℕ) → AreCombined es es ar d c op i j []
-none_combined es ar d c op i j = record { below = (λ k x h. absurd (omega arith)); members = (λ k h a e. absurd (omega arith)); proper = λ k h. absurd (omega arith) }
 
 -- one more child
 pub one_combined : (es fs gs : List Entry) (ar : ℕ → ℕ) (d c s t : ℕ) (op : Op) (i j x y n kk : ℕ) (ks : List ℕ) → length ks ≡ kk → Extends es fs → Extends fs gs → i < length es + 2 → j < length es + 2 → c < d
@@ -173,12 +150,3 @@ children_smaller es fs ar d c k s t i j x y e kx ky = elim (either s t) [
   where
     either : (m n : ℕ) → (m ≤ n) ⊎ (n ≤ m)
     either m n = grind arith
-
-pub first_at : {xs es : List Entry} {ar : ℕ → ℕ} {d i j c : ℕ} → xs ≡ es → IsFirst xs ar d i j c → IsFirst es ar d i j c
-first_at {xs} {es} {ar} {d} {i} {j} {c} e f = let P : List Entry → Type 0 = λ v. IsFirst v ar d i j c in subst P e f
-
-pub child_is : {xs es : List Entry} {ar : ℕ → ℕ} {d c k i x : ℕ} → xs ≡ es → ((t : ℕ) → IsTop xs i t → IsChild xs ar d c k t i x) → (t : ℕ) → IsTop es i t → IsChild es ar d c k t i x
-child_is {xs} {es} {ar} {d} {c} {k} {i} {x} e f = let P : List Entry → Type 0 = λ v. (t : ℕ) → IsTop v i t → IsChild v ar d c k t i x in subst P e f
-
-pub top_is : {xs es : List Entry} {i t : ℕ} → xs ≡ es → IsTop xs i t → IsTop es i t
-top_is {xs} {es} {i} {t} e f = let P : List Entry → Type 0 = λ v. IsTop v i t in subst P e f

@@ -1,7 +1,7 @@
 pub mod Cubes
 pub mod Seen
 pub mod Forms
-pub mod Falls
+pub mod Depth
 pub mod Tables
 pub mod Ops
 pub mod Least

@@ -3,7 +3,6 @@
 use Rattle.std.specs.Prelude.{ℕ, List}
 use Rattle.std.proofs.Props.{props}
 use Rattle.lfg_terms.specs.declared.choice.Choice.{Choice}
-use Rattle.lfg_model.specs.Lists.{In}
 use Rattle.lfg_context.specs.Seen.{Set, Known}
 use Rattle.lfg_context.specs.Sets.{member, IsInTable, IsMade, HasPicksOf, AreMade, DependsOnFirst}
 

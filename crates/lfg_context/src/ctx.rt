@@ -42,7 +42,7 @@ impl Model for Ctx {
 
     ghost size = { λ x. x.0 };
 
-    ghost use Rattle.lfg_context.specs.Falls.{depth_le};
+    ghost use Rattle.lfg_context.specs.Depth.{depth_le};
 
     ghost size_decreases = { λ a h. depth_le a.form h };
 }
