@@ -21,3 +21,6 @@ mod words;
 
 pub use lfg_model::GrammarFault;
 pub use load::load_grammar;
+
+#[cfg(test)]
+mod tests;
