@@ -1,0 +1,11 @@
+use Rattle.std.proofs.Common.{refl}
+use Rattle.std.specs.Ordering.{eq_by_cmp}
+use Rattle.std.proofs.lemmas.List.Filters.{dedup_is}
+use Rattle.lfg_terms.specs.Order.{edge_cmp}
+use Rattle.lfg_terms.specs.OrderLaws.{edge_cmp_total}
+use Rattle.lfg_terms.proofs.Ties.{edge_ties}
+use Rattle.lfg_model.proofs.Ascending.{sorted_set}
+use Rattle.lfg_chart.proofs.building.sorted_edges.Goals as goal
+
+pub returns : goal.returns
+returns c = sorted_set edge_cmp_total edge_ties (eq_by_cmp edge_cmp) (λ x y. refl) _ _ _ c.sort.ensures.permutation c.in_ok-sort.ensures.sorted (dedup_is (eq_by_cmp edge_cmp) _ _ c.dedup.ensures.filtered)

@@ -1,0 +1,10 @@
+use Rattle.std.proofs.Common.{refl}
+use Rattle.std.specs.Ordering.{eq_by_cmp}
+use Rattle.std.proofs.lemmas.List.Filters.{dedup_is}
+use Rattle.lfg_model.specs.Points.{point_cmp, point_cmp_total}
+use Rattle.lfg_model.proofs.PointTies.{point_ties}
+use Rattle.lfg_model.proofs.Ascending.{sorted_set}
+use Rattle.lfg_chart.proofs.building.sorted_points.Goals as goal
+
+pub returns : goal.returns
+returns c = sorted_set point_cmp_total point_ties (eq_by_cmp point_cmp) (λ x y. refl) _ _ _ c.sort.ensures.permutation c.in_ok-sort.ensures.sorted (dedup_is (eq_by_cmp point_cmp) _ _ c.dedup.ensures.filtered)

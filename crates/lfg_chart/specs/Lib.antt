@@ -1,0 +1,12 @@
+pub mod Agenda
+pub mod Cells
+pub mod Chart
+pub mod Checked
+pub mod Filling
+pub mod Meaning
+pub mod Nexts
+pub mod Numbers
+pub mod Places
+pub mod Points
+pub mod Tables
+pub mod Words
