@@ -1,1 +1,14 @@
 pub mod Answers
+pub mod BadPaths
+pub mod Categories
+pub mod Checks
+pub mod Cycles
+pub mod Found
+pub mod Halves
+pub mod Links
+pub mod OnlyDaughters
+pub mod Parts
+pub mod Reach
+pub mod Read
+pub mod Refusals
+pub mod Unlinked

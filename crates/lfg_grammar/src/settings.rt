@@ -1,11 +1,14 @@
-ghost use Rattle.std.specs.Prelude.{◌≡◌, ◌≢◌, ◌↔◌, ◌^◌, ◌<◌, ◌≤◌, ℕ, IsTrue, IfSome, IfNone, IfOk, MatchOption, None, Some, List, decimal, map};
+ghost use Rattle.std.specs.Prelude.{◌≡◌, [], ◌∷◌, ◌≢◌, ◌↔◌, ◌^◌, ◌<◌, ◌≤◌, ℕ, IsTrue, IfSome, IfNone, IfOk, MatchOption, None, Some, List, decimal, map};
 ghost use Rattle.lfg_model.specs.Firsts.{First};
 ghost use Rattle.lfg_model.specs.Lists.{In};
-ghost use Rattle.lfg_model.specs.Settings.{Placed, IsBadSetting, IsNumberTo, IsOutOfRange, IsSetTo, IsDepth, greatest_of, placed, words_set, words_or_none};
+ghost use Rattle.lfg_model.specs.Settings.{AreSettings, HasBadSetting, Placed, IsBadSetting, IsNumberTo, IsOutOfRange, IsSetTo, IsDepth, greatest_of, placed, words_set, words_or_none};
 ghost use Rattle.lfg_model.specs.TemplateRules.{NoneHas};
+ghost use Rattle.lfg_grammar.specs.Answers.{IsRange};
+ghost use Rattle.lfg_grammar.specs.Read.{AreRead};
 
 use itoa::Buffer;
-use lfg_terms::{Name, Setting};
+use lfg_terms::{List, Name, Setting};
+use std::alloc::{AllocError, Global};
 
 /// The number that the word is, if it is one: decimal digits without a zero in front.
 fn number_of(word: &Name) -> Option<u32>
@@ -82,13 +85,16 @@ fn came_before(earlier: &[Setting], key: &Name) -> bool
 }
 
 /// The number of the first entry whose key came before, or whose number is out of range.
-pub(crate) fn first_bad(settings: &[Setting]) -> Option<u32>
+fn first_bad(settings: &[Setting]) -> Option<u32>
     ensures { MatchOption result (NoneHas IsBadSetting (placed settings.now))
         (λ entry. (p : Placed) × First IsBadSetting (placed settings.now) p × (p.setting.entry ≡ entry)) }
 {
     for i in 0..settings.len() {
         let setting = &settings[i];
-        if is_out_of_range(setting) || came_before(&settings[..i], &setting.key) {
+        if came_before(&settings[..i], &setting.key) {
+            return Some(setting.entry);
+        }
+        if is_out_of_range(setting) {
             return Some(setting.entry);
         }
     }
@@ -105,4 +111,105 @@ fn words_set<'a>(settings: &'a [Setting], key: &str) -> Option<&'a [Name]>
         }
     }
     None
+}
+
+/// The number, at most the greatest, that the key is set to, or this one.
+fn number_set(settings: &[Setting], key: &str, greatest: u32, otherwise: u32) -> u32
+    requires good { (words : List (List ℕ)) → words_set key.now settings.now ≡ Some words → ¬ IsOutOfRange (Some greatest) words }
+    requires least { 1 ≤ otherwise }
+    requires most { otherwise ≤ greatest }
+    ensures set { IsSetTo key.now greatest otherwise settings.now result }
+    ensures least { 1 ≤ result }
+    ensures most { result ≤ greatest }
+{
+    let Some(words) = words_set(settings, key) else {
+        return otherwise;
+    };
+    let Some(number) = number_to(greatest, words) else {
+        unreachable!()
+    };
+    number
+}
+
+/// The same names.
+fn copies_of(alloc: Global, names: &[Name]) -> Result<Vec<Name>, AllocError>
+    ensures { IfOk result (λ v. v.items ≡ names.now) }
+{
+    let mut copies = Vec::new(alloc);
+    for name in names {
+        copies.push(name.clone()?)?;
+    }
+    Ok(copies)
+}
+
+/// The names that the key is set to, or none.
+fn names_set(alloc: Global, settings: &[Setting], key: &str) -> Result<List<Name>, AllocError>
+    ensures { IfOk result (λ names. names ≡ words_or_none (words_set key.now settings.now)) }
+{
+    let Some(words) = words_set(settings, key) else {
+        return List::new(alloc, Vec::new(alloc));
+    };
+    let copies = copies_of(alloc, words)?;
+    List::new(alloc, copies)
+}
+
+/// The name that the key is set to, if it is set to one alone.
+fn name_set<'a>(settings: &'a [Setting], key: &str) -> Option<&'a Name>
+    ensures { MatchOption result ((name : List ℕ) → ¬ (words_set key.now settings.now ≡ Some (name ∷ [])))
+        (λ name. words_set key.now settings.now ≡ Some (name.now ∷ [])) }
+{
+    let words = words_set(settings, key)?;
+    match words {
+        [name] => Some(name),
+        _ => None,
+    }
+}
+
+/// What the settings of a grammar say, beside the depth of paths.
+#[derive(Drop)]
+pub(crate) struct Settings {
+    pub(crate) root: Name,
+    pub(crate) governable: List<Name>,
+    pub(crate) gensize: u32,
+    pub(crate) maxfacts: u32,
+    pub(crate) depth: u8,
+}
+
+/// The fault of the settings, if they have one.
+pub(crate) fn fault_of(settings: &[Setting]) -> Option<u32>
+    ensures { MatchOption result (AreSettings settings.now) (HasBadSetting settings.now) }
+{
+    if let Some(entry) = first_bad(settings) {
+        return Some(entry);
+    }
+    match name_set(settings, "ROOTCAT") {
+        Some(_) => None,
+        None => Some(0),
+    }
+}
+
+/// The greatest number of attributes of a string of a path.
+fn depth_of(settings: &[Setting]) -> u8
+    requires { AreSettings settings.now }
+    ensures depth { IsDepth settings.now result }
+    ensures range { IsRange result }
+{
+    number_set(settings, "UNCERTAINTYDEPTH", 8, 3) as u8
+}
+
+/// What the settings say.
+pub(crate) fn read_settings(alloc: Global, settings: &[Setting]) -> Result<Settings, AllocError>
+    requires { AreSettings settings.now }
+    ensures { IfOk result (AreRead settings.now) }
+{
+    let Some(root) = name_set(settings, "ROOTCAT") else {
+        unreachable!()
+    };
+    Ok(Settings {
+        root: root.clone()?,
+        governable: names_set(alloc, settings, "GOVERNABLERELATIONS")?,
+        gensize: number_set(settings, "GENSIZE", 400, 60),
+        maxfacts: number_set(settings, "MAXFACTS", 200_000, 200_000),
+        depth: depth_of(settings),
+    })
 }

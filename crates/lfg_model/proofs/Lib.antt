@@ -69,6 +69,17 @@ pub mod ChartLaws
 pub mod OnePick
 pub mod SomePick
 pub mod ReachedLaws
+pub mod SoundForms
+pub mod SoundDrafts
+pub mod SoundEntries
+pub mod SoundExpansion
+pub mod SoundLoads
+pub mod SoundCounts
+pub mod SoundHeads
+pub mod PartPlaces
+pub mod SoundRows
+pub mod SoundWalks
+pub mod SoundLaws
 pub mod ThinExpansion
 pub mod ThinGraphs
 pub mod ThinSizes

@@ -4,6 +4,7 @@
 ghost use Rattle.lfg_model.specs.Brackets.{TreeTextIsBracketed};
 ghost use Rattle.lfg_model.specs.Examples.{NegatedWherePlainFails, SetsWithoutPredAreExempt, TargetsOfEqualNodesAreEqual};
 ghost use Rattle.lfg_model.specs.Lists.{SetsOfFactsAreOne};
+ghost use Rattle.lfg_model.specs.Loaded.{LoadedHasNoEdgeTwice, LoadsGivesLoaded};
 ghost use Rattle.lfg_model.specs.Loads.{LoadedHasNoFault, OneLoadFault, OneLoadedGrammar};
 ghost use Rattle.lfg_model.specs.ManWalks.{TheManWalks};
 ghost use Rattle.lfg_model.specs.Output.{OneOutput};
@@ -119,6 +120,13 @@ pub fn a_file_has_one_load_fault()
 /// same rows.
 pub fn a_file_has_one_loaded_grammar()
     ensures { OneLoadedGrammar }
+{}
+
+/// A grammar that is loaded from a file keeps the conditions of a loaded grammar, and by such a
+/// grammar no derivation has an edge twice.
+pub fn loaded_grammars_keep_the_conditions()
+    ensures loaded { LoadsGivesLoaded }
+    ensures once { LoadedHasNoEdgeTwice }
 {}
 
 /// A command over files has one output: one list of sections and one status.

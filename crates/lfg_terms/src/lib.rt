@@ -1,6 +1,7 @@
 //! The terms of LFG: names, edges, nodes, facts, literals, grammars, with their orders and texts.
 #![tactic(auto)]
 
+mod choice;
 mod copies;
 mod depth;
 mod draft;
@@ -20,6 +21,7 @@ mod tests;
 mod texts;
 mod tree;
 
+pub use choice::{Choice, ChoiceKind};
 pub use draft::{Draft, DraftRule, LexEntry, Plain, Rhs, Setting, Template};
 pub use fact_texts::{fact_text, is_listed, push_arg, push_args, push_fact};
 pub use grammar::{Arrow, Des, Form, Grammar, Graph, Item, Lex, Paths, Rule, Schema, Val};

@@ -8,14 +8,10 @@ use Rattle.lfg_model.specs.declared.status.GrammarFault.TheVariants.{Entry}
 use Rattle.lfg_model.specs.declared.status.Status.{Status}
 use Rattle.lfg_model.specs.declared.status.Status.TheVariants.{Done, Usage, ReadFault, FileTooLong, BadGrammar, WriteFault, Memory}
 use Rattle.lfg_model.specs.declared.status.GrammarFault.{GrammarFault}
-use Rattle.lfg_model.specs.Drafts.{not_utf8, no_token, no_lexemes, bad_section, bad_entry}
-use Rattle.lfg_model.specs.Output.{file_limit, IfBadGrammar, IfTooLong, IsFaultOf, at_fault}
-use Rattle.lfg_notation.specs.Faults.{Tells}
-use Rattle.lfg_notation.specs.declared.fault.DraftFault.{DraftFault}
-use Rattle.lfg_notation.specs.declared.fault.DraftFault.TheVariants as draft
+use Rattle.lfg_model.specs.Output.{file_limit, IfBadGrammar, IfTooLong, IsFaultOf}
 use Rattle.lfg_model.specs.ThinText.{ThinFile, ThinSentences}
 use Rattle.lfg_terms.specs.declared.grammar.Grammar.{Grammar}
-use Rattle.xle_run.specs.Loads.{IsFile, IsLongFile, IsTold, RefusesGrammar, RefusesText}
+use Rattle.xle_run.specs.Loads.{IsFile, IsLongFile, RefusesGrammar, RefusesText}
 
 -- what holds of what was answered, from two other things
 ok_both : {T E : Type 0} (P : T → Type 0) (B : Type 0) (Q : T → Type 0) → ((v : T) → P v → B → Q v) → (r : Result T E) → IfOk r P → OnOk r B → IfOk r Q
@@ -115,17 +111,3 @@ refuses_text files name text Usage f n w l = tt
 refuses_text files name text (ReadFault other) f n w l = tt
 refuses_text files name text WriteFault f n w l = tt
 refuses_text files name text Memory f n w l = tt
-
--- ---- the faults of the notation
-
--- what the notation's reader tells of the file is a fault of it
-told_fault : (bytes : List ℕ) (why : DraftFault) (fault : GrammarFault) → Tells bytes why → IsTold why fault → IsFaultOf bytes fault
-told_fault bytes (draft.NotUtf8 at) fault h e = at_fault (not_utf8 at) h e
-told_fault bytes (draft.NoToken at) fault h e = at_fault (no_token at) h e
-told_fault bytes (draft.Section number) fault h e = at_fault (no_lexemes (bad_section number)) h e
-told_fault bytes (draft.Entry number) fault h e = at_fault (no_lexemes (bad_entry number)) h e
-told_fault bytes draft.Memory fault h e = absurd e
-
-pub told_faults : {E : Type 0} (bytes : List ℕ) (why : DraftFault) (r : Result GrammarFault E) → Tells bytes why → IfOk r (IsTold why) → IfOk r (IsFaultOf bytes)
-told_faults bytes why (Ok fault) h e = told_fault bytes why fault h e
-told_faults bytes why (Err k) h e = tt

@@ -2,10 +2,8 @@
 use Rattle.std.specs.Prelude.{◌≡◌, ◌<◌, ◌≤◌, ℕ, Some, List, length}
 use Rattle.lfg_io.specs.Shelf.{Files, file_in}
 use Rattle.lfg_terms.specs.declared.grammar.Grammar.{Grammar}
-use Rattle.lfg_notation.specs.declared.fault.DraftFault.{DraftFault}
-use Rattle.lfg_notation.specs.declared.fault.DraftFault.TheVariants as draft
 use Rattle.lfg_model.specs.declared.status.GrammarFault.{GrammarFault}
-use Rattle.lfg_model.specs.declared.status.GrammarFault.TheVariants.{NotUtf8, NoToken, Section, Entry}
+use Rattle.lfg_model.specs.declared.status.GrammarFault.TheVariants.{Entry}
 use Rattle.lfg_model.specs.declared.status.Status.{Status}
 use Rattle.lfg_model.specs.declared.status.Status.TheVariants.{Done, Usage, ReadFault, FileTooLong, BadGrammar, WriteFault, Memory}
 use Rattle.lfg_model.specs.Output.{file_limit, IsFaultOf}
@@ -66,11 +64,3 @@ RefusesText files name Usage = Unit {0}
 RefusesText files name (ReadFault other) = Unit {0}
 RefusesText files name WriteFault = Unit {0}
 RefusesText files name Memory = Unit {0}
-
--- the fault of the notation, as a status tells it
-abbrev pub IsTold : DraftFault → GrammarFault → Type 0
-IsTold (draft.NotUtf8 at) f = f ≡ NotUtf8 at
-IsTold (draft.NoToken at) f = f ≡ NoToken at
-IsTold (draft.Section number) f = f ≡ Section number
-IsTold (draft.Entry number) f = f ≡ Entry number
-IsTold draft.Memory f = ⊥

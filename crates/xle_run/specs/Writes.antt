@@ -1,5 +1,5 @@
 -- What has been put to a sink that tells its bytes.
-use Rattle.std.specs.Prelude.{◌≡◌, ◌==◌, ℕ, ◌+◌, ◌≤◌, true, false, Option, Some, Result, Ok, Err, List, ◌++◌, length, take}
+use Rattle.std.specs.Prelude.{◌≡◌, ◌==◌, ℕ, ◌+◌, ◌≤◌, true, false, Option, Some, Result, Ok, Err, List, [], ◌∷◌, ◌++◌, length, take, codes}
 use Rattle.lfg_terms.specs.declared.grammar.Grammar.{Grammar}
 use Rattle.lfg_model.specs.declared.status.Status.{Status}
 use Rattle.lfg_model.specs.declared.status.Status.TheVariants.{Done, Usage, ReadFault, FileTooLong, BadGrammar, WriteFault, Memory}
@@ -115,3 +115,7 @@ IfUnaccepted Usage P = Unit {0}
 IfUnaccepted (ReadFault name) P = Unit {0}
 IfUnaccepted WriteFault P = Unit {0}
 IfUnaccepted Memory P = Unit {0}
+
+-- the line for a file with the fault of this name and this value
+abbrev pub bad_file_line : List ℕ → List ℕ → List ℕ → List ℕ
+bad_file_line name fault value = codes "xle: " ++ (name ++ codes ": " ++ fault ++ 32 ∷ value) ++ 10 ∷ []

@@ -5,12 +5,11 @@ ghost use Rattle.lfg_io.specs.Shelf.{Files, file_in};
 ghost use Rattle.lfg_model.specs.Output.{IfBadGrammar, IfTooLong, IsFaultOf};
 ghost use Rattle.lfg_model.specs.Thin.{IsThinGrammar};
 ghost use Rattle.xle_run.specs.Causes.{IsRefused};
-ghost use Rattle.xle_run.specs.Loads.{GivesGrammar, IsFile, IsLongFile, IsTold, RefusesGrammar};
+ghost use Rattle.xle_run.specs.Loads.{GivesGrammar, IsFile, IsLongFile, RefusesGrammar};
 
 use crate::thin::thin_grammar;
 use lfg_io::{Shelf, ShelfFault};
 use lfg_model::{GrammarFault, Status};
-use lfg_notation::{DraftFault, read_grammar_text};
 use lfg_terms::{Grammar, Name};
 use std::alloc::{AllocError, Global};
 
@@ -72,28 +71,17 @@ pub(crate) fn bad_file(alloc: Global, name: &str, fault: GrammarFault) -> Status
     }
 }
 
-/// The fault as a status tells it.
-fn told(fault: DraftFault) -> Result<GrammarFault, AllocError>
-    ensures { IfOk result (IsTold fault) }
-{
-    match fault {
-        DraftFault::NotUtf8 { at } => Ok(GrammarFault::NotUtf8 { at }),
-        DraftFault::NoToken { at } => Ok(GrammarFault::NoToken { at }),
-        DraftFault::Section { number } => Ok(GrammarFault::Section { number }),
-        DraftFault::Entry { number } => Ok(GrammarFault::Entry { number }),
-        DraftFault::Memory => Err(AllocError),
-    }
-}
-
-/// Why a file that is not thin is not accepted: the fault of its notation, or that it is not thin.
+/// Why a file that is not thin is not accepted: the fault for which it is not loaded, or that it is
+/// not thin.
 fn grammar_fault(alloc: Global, bytes: &[u8]) -> Result<GrammarFault, AllocError>
     requires { length bytes.now ≤ 4194304 }
     ensures { IfOk result (IsFaultOf bytes.now) }
 {
-    let Err(fault) = read_grammar_text(alloc, bytes) else {
-        return Ok(GrammarFault::Entry { number: 0 });
-    };
-    told(fault)
+    match lfg_grammar::load_grammar(alloc, bytes) {
+        Ok(_) => Ok(GrammarFault::Entry { number: 0 }),
+        Err(GrammarFault::Memory) => Err(AllocError),
+        Err(fault) => Ok(fault),
+    }
 }
 
 /// The status of a grammar file that is not thin.

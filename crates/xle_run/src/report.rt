@@ -1,7 +1,8 @@
 ghost use Rattle.std.specs.Prelude.{◌≡◌, [], List, ℕ, ◌≤◌, OnOk, OnErr};
 ghost use Rattle.lfg_io.specs.Sink.{Appends, AppendsPrefix};
 ghost use Rattle.lfg_io.specs.Counts.{Rose};
-ghost use Rattle.lfg_model.specs.Output.{fault_line, fault_name, fault_number};
+ghost use Rattle.lfg_model.specs.Output.{fault_line, fault_name, fault_value};
+ghost use Rattle.xle_run.specs.Writes.{bad_file_line};
 ghost use Rattle.lfg_model.specs.declared.status.Status.TheVariants.{BadGrammar};
 
 use itoa::Buffer;
@@ -43,16 +44,29 @@ fn put_bad_grammar<E: Sink>(err: &mut E, name: &Name, fault: &GrammarFault) -> R
     ensures rose { OnErr result (Rose (E.faults err.old) (E.faults err.new)) }
 {
     let mut buffer = Buffer::new();
-    let digits = buffer.format(number_of(fault));
+    put_bad_file(err, name, name_of(fault), value_of(fault, &mut buffer))
+}
+
+/// Puts the line for a file with the fault of this name and this value.
+fn put_bad_file<E: Sink>(
+    err: &mut E,
+    name: &Name,
+    fault: &str,
+    value: &str,
+) -> Result<(), SinkFault>
+    ensures appended { OnOk result (Appends (E.written err.old) (E.written err.new) (bad_file_line name.now fault.now value.now)) }
+    ensures cut { OnErr result (AppendsPrefix (E.written err.old) (E.written err.new) (bad_file_line name.now fault.now value.now)) }
+    ensures rose { OnErr result (Rose (E.faults err.old) (E.faults err.new)) }
+{
     put_pieces(
         err,
         &[
             b"xle: ",
             name.text().as_bytes(),
             b": ",
-            name_of(fault).as_bytes(),
+            fault.as_bytes(),
             b" ",
-            digits.as_bytes(),
+            value.as_bytes(),
             b"\n",
         ],
     )
@@ -67,17 +81,45 @@ fn name_of(fault: &GrammarFault) -> &str
         GrammarFault::NoToken { .. } => "NoToken",
         GrammarFault::Section { .. } => "Section",
         GrammarFault::Entry { .. } => "Entry",
+        GrammarFault::Config { .. } => "Config",
+        GrammarFault::Repeated { .. } => "Repeated",
+        GrammarFault::Undefined { .. } => "Undefined",
+        GrammarFault::Arity { .. } => "Arity",
+        GrammarFault::TemplateCycle { .. } => "TemplateCycle",
+        GrammarFault::TooMuch { .. } => "TooMuch",
+        GrammarFault::TooManyPaths { .. } => "TooManyPaths",
+        GrammarFault::NoPath { .. } => "NoPath",
+        GrammarFault::EmptyStar { .. } => "EmptyStar",
+        GrammarFault::EmptyRule { .. } => "EmptyRule",
+        GrammarFault::Both { .. } => "Both",
+        GrammarFault::UnaryCycle { .. } => "UnaryCycle",
+        GrammarFault::Unlinked { .. } => "Unlinked",
+        GrammarFault::Memory => "Memory",
     }
 }
 
-/// The place or the number that the fault has.
-fn number_of(fault: &GrammarFault) -> u32
-    ensures { result ≡ fault_number fault.now }
+/// The place, the number or the name that the fault has; a number is written in the buffer.
+fn value_of<'a>(fault: &'a GrammarFault, buffer: &'a mut Buffer) -> &'a str
+    ensures { result.now ≡ fault_value fault.now }
 {
     match fault {
-        GrammarFault::NotUtf8 { at } => *at,
-        GrammarFault::NoToken { at } => *at,
-        GrammarFault::Section { number } => *number,
-        GrammarFault::Entry { number } => *number,
+        GrammarFault::NotUtf8 { at } => buffer.format(*at),
+        GrammarFault::NoToken { at } => buffer.format(*at),
+        GrammarFault::Section { number } => buffer.format(*number),
+        GrammarFault::Entry { number } => buffer.format(*number),
+        GrammarFault::Config { entry } => buffer.format(*entry),
+        GrammarFault::Repeated { name } => name.text(),
+        GrammarFault::Undefined { name } => name.text(),
+        GrammarFault::Arity { name } => name.text(),
+        GrammarFault::TemplateCycle { name } => name.text(),
+        GrammarFault::TooMuch { entry } => buffer.format(*entry),
+        GrammarFault::TooManyPaths { entry } => buffer.format(*entry),
+        GrammarFault::NoPath { entry } => buffer.format(*entry),
+        GrammarFault::EmptyStar { category } => category.text(),
+        GrammarFault::EmptyRule { category } => category.text(),
+        GrammarFault::Both { category } => category.text(),
+        GrammarFault::UnaryCycle { category } => category.text(),
+        GrammarFault::Unlinked { category } => category.text(),
+        GrammarFault::Memory => "",
     }
 }

@@ -186,41 +186,80 @@ fn bad_grammar(alloc: Global, fault: GrammarFault) -> Result<Status, AllocError>
     })
 }
 
+/// Asserts with what fault and what line a run ends over the grammar with one part in place of
+/// another.
+fn assert_fault(
+    rt: &(impl Abort + AllocGlobal),
+    old: &str,
+    new: &str,
+    fault: GrammarFault,
+    line: &str,
+) -> Result<(), AllocError> {
+    let grammar = with_part(rt.alloc(), TOY, old, new)?;
+    let status = bad_grammar(rt.alloc(), fault)?;
+    let command = ["readings", "p.lfg", "s.txt"];
+    assert_refused(
+        rt,
+        &command,
+        grammar.as_str(),
+        "the man walks\n",
+        status,
+        line,
+    )
+}
+
 #[test]
 fn tells_the_first_fault_of_a_grammar_file(rt: HostRuntime) -> Result<(), Fail> {
     let alloc = rt.alloc();
-    let command = ["readings", "p.lfg", "s.txt"];
-    let text = "the man walks\n";
-    let entry = with_part(alloc, TOY, "NP --> D N", "NP --> D. N")?;
-    let status = bad_grammar(alloc, GrammarFault::Entry { number: 4 })?;
-    assert_refused(
+    let token = GrammarFault::NoToken { at: 0 };
+    assert_fault(
         &rt,
-        &command,
-        entry.as_str(),
-        text,
-        status,
-        "xle: p.lfg: Entry 4\n",
-    )?;
-    let token = with_part(alloc, TOY, "TOY P CONFIG", "#TOY P CONFIG")?;
-    let status = bad_grammar(alloc, GrammarFault::NoToken { at: 0 })?;
-    assert_refused(
-        &rt,
-        &command,
-        token.as_str(),
-        text,
-        status,
+        "TOY P CONFIG",
+        "#TOY P CONFIG",
+        token,
         "xle: p.lfg: NoToken 0\n",
     )?;
-    let section = with_part(alloc, TOY, "pres.\n----", "pres.\n")?;
-    let status = bad_grammar(alloc, GrammarFault::Section { number: 3 })?;
-    assert_refused(
+    let section = GrammarFault::Section { number: 3 };
+    assert_fault(
         &rt,
-        &command,
-        section.as_str(),
-        text,
-        status,
+        "pres.\n----",
+        "pres.\n",
+        section,
         "xle: p.lfg: Section 3\n",
     )?;
+    let entry = GrammarFault::Entry { number: 4 };
+    assert_fault(
+        &rt,
+        "NP --> D N",
+        "NP --> D. N",
+        entry,
+        "xle: p.lfg: Entry 4\n",
+    )?;
+    let name = Name::new(alloc, "the")?;
+    let repeated = GrammarFault::Repeated { name };
+    assert_fault(
+        &rt,
+        "man N",
+        "the N *. man N",
+        repeated,
+        "xle: p.lfg: Repeated the\n",
+    )?;
+    let path = GrammarFault::NoPath { entry: 6 };
+    assert_fault(
+        &rt,
+        "(^ NUM)=sg.",
+        "(^ [A B C D]+)=x.",
+        path,
+        "xle: p.lfg: NoPath 6\n",
+    )?;
+    let rules = "S --> NP: (^ SUBJ)=!; VP.\nNP --> D N.\nVP --> V.";
+    let changed = "S --> B. B --> A. A --> B (C).";
+    let category = Name::new(alloc, "B")?;
+    let cycle = GrammarFault::UnaryCycle { category };
+    assert_fault(&rt, rules, changed, cycle, "xle: p.lfg: UnaryCycle B\n")?;
+    let accepted = GrammarFault::Entry { number: 0 };
+    let changed = "S --> B. B --> A. A --> B C.";
+    assert_fault(&rt, rules, changed, accepted, "xle: p.lfg: Entry 0\n")?;
     Ok(())
 }
 

@@ -1,22 +1,20 @@
-use Rattle.std.proofs.Common.{rules, ◌≡◌, ◌≢◌, ◌↔◌, ◌^◌, ◌<◌, ◌≤◌, ℕ, IsTrue, IfSome, IfNone, IfOk, MatchOption, None, Some, List, decimal, map, ◌+◌, ◌-◌, ◌*◌, length, ◌/◌, ◌%◌, Bool, true, false, nat_eq, nat_lt, [], ◌∷◌, ◌++◌, slice_index_or, slice_set, bit_and, bit_or, Fits, w8, w32, w64, Bor, MutBor}
-use Rattle.lfg_model.specs.Firsts.{First}
-use Rattle.lfg_model.specs.Lists.{In}
-use Rattle.lfg_model.specs.Settings.{Placed, IsBadSetting, IsNumberTo, IsOutOfRange, IsSetTo, IsDepth, greatest_of, placed, words_set, words_or_none}
-use Rattle.lfg_model.specs.TemplateRules.{NoneHas}
+use Rattle.std.proofs.Common.{◌≡◌, List, Some, sym, ap, subst, arith, ◌∙◌}
+use Rattle.std.proofs.lemmas.List.{drop_all}
+use Rattle.lfg_model.specs.Settings.{words_set}
+use Rattle.lfg_model.specs.Terms.{Name, same_name}
+use Rattle.lfg_grammar.proofs.Keys.{set_here, set_later}
 use Rattle.lfg_grammar.proofs.settings.words_set.Goals as goal
 
--- src/settings.rt:102:5
-pub loop-setting-init : goal.loop-setting-init
-loop-setting-init c = ?
-
--- src/settings.rt:104:13
 pub returns-then-eq : goal.returns-then-eq
-returns-then-eq c = ?
+returns-then-eq c =
+    sym c.loop-setting.invariant
+    ∙ set_here c.args.key.now c.args.settings.now c.loop-setting.setting-index c.setting-item.result c.loop-setting-test.true c.setting-item.is (ap (λ (n : Name). same_name n c.args.key.now) (sym c.text.ensures) ∙ sym c.if-eq.ensures)
+    ∙ ap Some (sym c.list.ensures)
 
--- src/settings.rt:102:5
 pub loop-setting-preserved : goal.loop-setting-preserved
-loop-setting-preserved c = ?
+loop-setting-preserved c =
+    sym (set_later c.args.key.now c.args.settings.now c.loop-setting.setting-index c.setting-item.result c.loop-setting-test.true c.setting-item.is (ap (λ (n : Name). same_name n c.args.key.now) (sym c.text.ensures) ∙ sym c.if-eq.ensures))
+    ∙ c.loop-setting.invariant
 
--- src/settings.rt:99:1
 pub returns : goal.returns
-returns c = ?
+returns c = sym c.loop-setting.invariant ∙ ap (words_set c.args.key.now) (drop_all c.loop-setting.setting-index c.args.settings.now (omega arith))

@@ -1,0 +1,17 @@
+mod Canonical
+mod TestLaws
+mod TableLaws
+mod Making
+mod Children
+mod Combining
+mod Wider
+mod Keys
+mod Results
+mod NumberLaws
+mod LeastLaws
+mod Apart
+mod SeenLaws
+mod FirstLaws
+pub mod Growing
+pub mod Depending
+mod SomeMember

@@ -1,0 +1,9 @@
+pub mod Cubes
+pub mod Seen
+pub mod Forms
+pub mod Depth
+pub mod Tables
+pub mod Ops
+pub mod Least
+pub mod Sets
+pub mod Props
