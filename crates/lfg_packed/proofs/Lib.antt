@@ -1,0 +1,2 @@
+pub mod KeyTies
+pub mod SpotLaws

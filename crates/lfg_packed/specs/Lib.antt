@@ -1,0 +1,9 @@
+pub mod Assignments
+pub mod ChoicePoints
+pub mod Choices
+pub mod Counts
+pub mod KeyLaws
+pub mod Layouts
+pub mod Sizes
+pub mod SpotFacts
+pub mod Words
