@@ -15,15 +15,8 @@ use Rattle.lfg_model.specs.Resolve.{Instance, resolved}
 use Rattle.lfg_model.specs.Trees.{width, edge_of, cat_of, items_of, item_annotation, entry_annotation, literals, parts_literals, under, word_facts, tree_facts, parts_facts}
 use Rattle.lfg_model.specs.Spots.{Spot, spots_of, parts_spots}
 use Rattle.lfg_model.proofs.Spans.{tree_end, tree_edge}
+use Rattle.lfg_packed.proofs.Listing.{flat_append}
 use Rattle.lfg_packed.specs.SpotFacts.{category_of, category_at, below_of, spot_literals, under_facts, spot_facts, LiteralsAreOfSpots, TreeFactsAreOfSpots}
-
-flat_append : {X Y : Type 0} (f : X → List Y) (xs ys : List X) → flat_map f (xs ++ ys) ≡ flat_map f xs ++ flat_map f ys
-flat_append f [] ys = refl
-flat_append f (x ∷ xs) ys = ap (λ zs. f x ++ zs) (flat_append f xs ys) ∙ sym (append_assoc (f x) (flat_map f xs) (flat_map f ys))
-  where
-    append_assoc : {Y : Type 0} (us vs ws : List Y) → (us ++ vs) ++ ws ≡ us ++ (vs ++ ws)
-    append_assoc [] vs ws = refl
-    append_assoc (u ∷ us) vs ws = ap (λ zs. u ∷ zs) (append_assoc us vs ws)
 
 -- the category of a part's item
 looked_up : (rule : Rule) (occ : ℕ) (cat : Option Name) (picks : List ℕ) → IsItem rule occ cat picks → category_of (item_at rule.items occ) ≡ cat

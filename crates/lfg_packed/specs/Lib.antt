@@ -4,6 +4,7 @@ pub mod Choices
 pub mod Counts
 pub mod KeyLaws
 pub mod Layouts
+pub mod Picks
 pub mod Sizes
 pub mod SpotFacts
 pub mod Words
