@@ -1,7 +1,7 @@
 use Rattle.std.proofs.Common.{length, get_or, subst, ℕ, refl, ◌∷◌, []}
 use Rattle.lfg_templates.specs.Graphs.{Tied, Reached}
 use Rattle.lfg_templates.proofs.Reaching.{tied_own, reached_more}
-use Rattle.lfg_templates.proofs.cycles.mark_row.Goals as goal
+use Rattle.lfg_templates.proofs.search.mark_row.Goals as goal
 
 pub mark-requires : goal.mark-requires
 mark-requires c = tied_own c.loop-place.invariant.tied

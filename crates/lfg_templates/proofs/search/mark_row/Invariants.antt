@@ -1,6 +1,6 @@
 use Rattle.std.proofs.Common.{length, take}
 use Rattle.lfg_templates.specs.Graphs.{Tied, Reached}
-use Rattle.lfg_templates.proofs.cycles.mark_row.Given as goal
+use Rattle.lfg_templates.proofs.search.mark_row.Given as goal
 
 -- the places so far are marked and reached
 abbrev pub invariant-loop-place : goal.invariant-loop-place

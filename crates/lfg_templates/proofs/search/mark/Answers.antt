@@ -1,6 +1,6 @@
 use Rattle.std.proofs.Common.{rules, ◌≡◌, ◌<◌, length, get_or, false}
 use Rattle.lfg_templates.proofs.Reaching.{tied_more, reached_push}
-use Rattle.lfg_templates.proofs.cycles.mark.Goals as goal
+use Rattle.lfg_templates.proofs.search.mark.Goals as goal
 
 pub returns-clause-tied : goal.returns-clause-tied
 returns-clause-tied c =

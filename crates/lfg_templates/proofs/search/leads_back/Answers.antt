@@ -2,7 +2,7 @@ use Rattle.std.proofs.Common.{rules, arith, length, map, replicate, false, â—Œâ‰
 use Rattle.std.proofs.lemmas.List.{length-replicate}
 use Rattle.lfg_templates.proofs.Measures.{In_item}
 use Rattle.lfg_templates.proofs.Reaching.{tied_fresh, tied_at, tied_within, reached_at, search_begun, search_more, search_done, rows_length, row_items}
-use Rattle.lfg_templates.proofs.cycles.leads_back.Goals as goal
+use Rattle.lfg_templates.proofs.search.leads_back.Goals as goal
 
 pub mark_row-requires : goal.mark_row-requires
 mark_row-requires c =
