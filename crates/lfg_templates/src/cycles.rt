@@ -46,8 +46,9 @@ fn row_of(
 fn graph_of(alloc: Global, templates: &Templates<'_>) -> Result<Graph, AllocError>
     ensures { IfOk result (λ graph. graph ≡ graph_of (map template_form templates.now)) }
 {
+    let list = templates.list();
     let mut out = Vec::new(alloc);
-    for template in templates.list() {
+    for template in list {
         out.push(row_of(alloc, templates, template)?)?;
     }
     Graph::new(alloc, out)
@@ -85,9 +86,10 @@ pub(crate) fn first_cycle<'a>(
 ) -> Result<Option<Spot<'a>>, AllocError>
     ensures { IfOk result (λ r. Finds template_entry template_name (IsCyclic (map template_form templates.now)) (map template_form templates.now) (option_map spot_of r)) }
 {
+    let list = templates.list();
     let graph = graph_of(alloc, templates)?;
     let mut first = None;
-    for template in templates.list() {
+    for template in list {
         first = with_cycle(alloc, templates, &graph, first, template)?;
     }
     Ok(first)

@@ -85,12 +85,22 @@ fn is_below(below: usize, rank: usize) -> bool
     below > 0 && below < rank
 }
 
+/// Whether the first rank is one, and lower than the other, if that is one.
+fn rises_to(rank: usize, above: usize) -> bool
+    ensures { IsTrue result → 0 < above → (0 < rank) × (rank < above) }
+{
+    above == 0 || is_below(rank, above)
+}
+
 /// Whether each place of the row has a rank below this one, if this is one.
 fn row_falls(row: &[usize], ranks: &[usize], rank: usize) -> bool
     ensures { IsTrue result → (j : ℕ) → In j row.now → 0 < rank → RanksBelow ranks.now rank j }
 {
+    if rank == 0 {
+        return true;
+    }
     for place in row {
-        if rank > 0 && !is_below(rank_of(ranks, *place), rank) {
+        if !is_below(rank_of(ranks, *place), rank) {
             return false;
         }
     }
@@ -102,8 +112,7 @@ fn row_rises(row: &[usize], ranks: &[usize], rank: usize) -> bool
     ensures { IsTrue result → (j : ℕ) → In j row.now → 0 < rank_of ranks.now j → (0 < rank) × (rank < rank_of ranks.now j) }
 {
     for place in row {
-        let above = rank_of(ranks, *place);
-        if above > 0 && !is_below(rank, above) {
+        if !rises_to(rank, rank_of(ranks, *place)) {
             return false;
         }
     }
