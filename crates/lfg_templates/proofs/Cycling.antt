@@ -1,5 +1,5 @@
 -- What the graph says of the templates.
-use Rattle.std.proofs.Common.{◌≡◌, ℕ, zero, suc, ◌<◌, Bool, true, false, cond, Some, List, [], ◌∷◌, length, map, get_or, Vec, Global, refl, sym, ap, ◌∙◌, subst, arith}
+use Rattle.std.proofs.Common.{◌≡◌, ℕ, zero, suc, ◌<◌, Bool, true, false, cond, Some, List, [], ◌∷◌, length, map, get_or, refl, sym, ap, ◌∙◌, subst, arith}
 use Rattle.std.proofs.lemmas.List.{length-map}
 use Rattle.lfg_model.specs.Lists.{In, here, later}
 use Rattle.lfg_model.specs.Terms.{Name, same_name}
@@ -109,14 +109,14 @@ in_place (u ∷ ts) t h = in_at u ts t (same_name u.name t.name) refl (λ e. sam
 
 -- ---- as the program holds the graph
 
-pub graph_length : (ts : List TemplateForm) (g : List (Vec ℕ Global)) → map (λ r. r.items) g ≡ graph_of ts → length g ≡ length ts
-graph_length ts g e = sym (length-map g (λ (r : Vec ℕ Global). r.items)) ∙ ap length e ∙ length-map ts (row_of ts)
+pub graph_length : (ts : List TemplateForm) (rows : List (List ℕ)) → rows ≡ graph_of ts → length rows ≡ length ts
+graph_length ts rows e = ap length e ∙ length-map ts (row_of ts)
 
-pub walks_from_cyclic : (ts : List TemplateForm) (g : List (Vec ℕ Global)) (t : TemplateForm) (p : ℕ) → map (λ r. r.items) g ≡ graph_of ts → p ≡ place_in ts t.name → Reaches ts t.name t.name → Walks (map (λ r. r.items) g) p p
-walks_from_cyclic ts g t p e f r = subst (λ (rows : List (List ℕ)). Walks rows p p) (sym e) (subst (λ (x : ℕ). Walks (graph_of ts) x x) (sym f) (walks_from_reaches ts r))
+pub walks_from_cyclic : (ts : List TemplateForm) (rows : List (List ℕ)) (t : TemplateForm) (p : ℕ) → rows ≡ graph_of ts → p ≡ place_in ts t.name → Reaches ts t.name t.name → Walks rows p p
+walks_from_cyclic ts rows t p e f r = subst (λ (rs : List (List ℕ)). Walks rs p p) (sym e) (subst (λ (x : ℕ). Walks (graph_of ts) x x) (sym f) (walks_from_reaches ts r))
 
-pub cyclic_from_walks : (ts : List TemplateForm) (g : List (Vec ℕ Global)) (t : TemplateForm) (p : ℕ) → map (λ r. r.items) g ≡ graph_of ts → p ≡ place_in ts t.name → place_in ts t.name < length ts → Walks (map (λ r. r.items) g) p p → Reaches ts t.name t.name
-cyclic_from_walks ts g t p e f l w = reaches_from_walks ts t.name l (subst (λ (x : ℕ). Walks (graph_of ts) x x) f (subst (λ (rows : List (List ℕ)). Walks rows p p) e w))
+pub cyclic_from_walks : (ts : List TemplateForm) (rows : List (List ℕ)) (t : TemplateForm) (p : ℕ) → rows ≡ graph_of ts → p ≡ place_in ts t.name → place_in ts t.name < length ts → Walks rows p p → Reaches ts t.name t.name
+cyclic_from_walks ts rows t p e f l w = reaches_from_walks ts t.name l (subst (λ (x : ℕ). Walks (graph_of ts) x x) f (subst (λ (rs : List (List ℕ)). Walks rs p p) e w))
 
 pub row_from_calls : (ts : List TemplateForm) (t : TemplateForm) (held : List Called) → map called_of held ≡ map (call_at t.entry) (calls t.body) → map (λ c. place_in ts c.name.now) held ≡ row_of ts t
 row_from_calls ts t held e = at held ∙ ap (map (λ (c : CallAt). place_in ts c.call.name)) e ∙ out (calls t.body)

@@ -1,6 +1,6 @@
 -- Heads, and those before them.
 use Rattle.std.proofs.Common.{◌≡◌, ◌≢◌, ℕ, zero, suc, arith, ◌+◌, ◌<◌, ◌⊎◌, inl, inr, Option, List, [], ◌∷◌, ◌++◌, length, map, take, get_or, sym, ap, ◌∙◌, subst, append_assoc, append-nil}
-use Rattle.std.proofs.lemmas.List.{take_more, map-append}
+use Rattle.std.proofs.lemmas.List.{take_more, map_more, map-append}
 use Rattle.lfg_model.specs.Lists.{In, here, later}
 use Rattle.lfg_model.specs.Terms.{Name}
 use Rattle.lfg_model.specs.TemplateRules.{Head, head_entry, Repeated, Headed, headed_from, headed, HeadsBefore, Twice, at_once, further, head_name}
@@ -26,26 +26,10 @@ headed_more hs i h l e =
     ap (λ (xs : List held.Head). headed (map head_of xs)) (take_more hs i h l ∙ ap (λ (x : held.Head). take i hs ++ x ∷ []) (sym e))
     ∙ ap headed (map-append head_of (take i hs) (h ∷ [])) ∙ headed_push (map head_of (take i hs)) (head_of h)
 
+pub heads_taken : (hs : List held.Head) (i : ℕ) (h : held.Head) → i < length hs → h ≡ get_or hs i h → map head_of (take (i + 1) hs) ≡ map head_of (take i hs) ++ head_of h ∷ []
+heads_taken hs i h l e = map_more head_of hs i h l ∙ ap (λ (x : held.Head). map head_of (take i hs) ++ head_of x ∷ []) (sym e)
+
 -- ---- what was passed
-
-pub item_among : (xs : List Name) (i : ℕ) (x n : Name) → i < length xs → x ≡ get_or xs i x → x ≡ n → In n xs
-item_among xs i x n l e f = subst (λ (y : Name). In y xs) f (In_item xs i x x l e)
-
-pub not_among_more : (xs : List Name) (i : ℕ) (x n : Name) → i < length xs → x ≡ get_or xs i x → (In n (take i xs) → ⊥) → (x ≡ n → ⊥) → In n (take (i + 1) xs) → ⊥
-not_among_more xs i x n l e h g k = elim (In-take_more xs i x l k) [ inl a ↦ h a | inr b ↦ g (e ∙ sym b) ]
-
-pub item_before : (h : held.Head) (xs : List held.Head) (i : ℕ) (x : held.Head) → i < length xs → x ≡ get_or xs i x → ((head_of x).name ≡ (head_of h).name) × ((head_of x).entry ≢ (head_of h).entry) → HeadsBefore (head_of h) (map head_of xs)
-item_before h xs i x l e p = record { other = head_of x; before = In-map head_of (In_item xs i x x l e); same = p.0; another = p.1 }
-
-pub not_before_more : (h : held.Head) (xs : List held.Head) (i : ℕ) (x : held.Head) → i < length xs → x ≡ get_or xs i x → (HeadsBefore (head_of h) (map head_of (take i xs)) → ⊥) → (((head_of x).name ≡ (head_of h).name) × ((head_of x).entry ≢ (head_of h).entry) → ⊥)
-    → HeadsBefore (head_of h) (map head_of (take (i + 1) xs)) → ⊥
-not_before_more h xs i x l e n g b =
-    let r = In_from_map head_of (take (i + 1) xs) b.before in
-    elim (In-take_more xs i x l r.1) [
-      | inl a ↦ n (record { other = b.other; before = subst (λ (o : Head). In o (map head_of (take i xs))) r.2 (In-map head_of a); same = b.same; another = b.another })
-      | inr f ↦ let same : head_of x ≡ b.other = ap head_of (e ∙ sym f) ∙ r.2 in
-          g (ap (λ (o : Head). o.name) same ∙ b.same, λ k. b.another (ap (λ (o : Head). o.entry) (sym same) ∙ k))
-    ]
 
 twice_push : (xs : List Name) (x : Name) → Twice (xs ++ x ∷ []) → Twice xs ⊎ In x xs
 twice_push [] x (at_once h) = In-nil h

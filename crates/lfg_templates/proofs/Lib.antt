@@ -18,3 +18,6 @@ pub mod Expanding
 pub mod Eaching
 pub mod Fitting
 pub mod Exactly
+pub mod Placing
+pub mod HeadingLaws
+pub mod RankLaws

@@ -1,6 +1,9 @@
 pub mod Views
+pub mod Places
+pub mod Headings
 pub mod Depth
 pub mod Counts
 pub mod Spots
 pub mod Graphs
+pub mod Ranks
 pub mod Faults

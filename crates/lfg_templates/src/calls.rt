@@ -8,7 +8,7 @@ ghost use Rattle.lfg_templates.specs.Spots.{Finds};
 ghost use Rattle.lfg_templates.specs.Views.{called_of, spot_of};
 
 use crate::spots::{Spot, earlier};
-use crate::templates::template_named;
+use crate::templates::Templates;
 use lfg_terms::{Draft, DraftRule, LexEntry, Name, PathExpr, Rhs, Schema, Template};
 use std::alloc::{AllocError, Global};
 
@@ -168,14 +168,14 @@ pub(crate) fn draft_calls<'a>(
 
 /// The first spot so far, where the call comes behind and may name no template.
 fn with_undefined<'a>(
-    templates: &[Template],
+    templates: &Templates<'_>,
     first: Option<Spot<'a>>,
     call: Called<'a>,
 ) -> Option<Spot<'a>>
     ensures { (cs : List CallAt) → Finds call_entry call_name (IsUndefined (map template_form templates.now)) cs (option_map spot_of first.entry)
         → Finds call_entry call_name (IsUndefined (map template_form templates.now)) (cs ++ called_of call.entry ∷ []) (option_map spot_of result) }
 {
-    let Some(_) = template_named(templates, call.name) else {
+    let Some(_) = templates.named(call.name) else {
         let spot = Spot {
             entry: call.entry,
             name: call.name,
@@ -186,7 +186,7 @@ fn with_undefined<'a>(
 }
 
 /// The first call, in written order, that names no template.
-pub(crate) fn first_undefined<'a>(templates: &[Template], calls: &[Called<'a>]) -> Option<Spot<'a>>
+pub(crate) fn first_undefined<'a>(templates: &Templates<'_>, calls: &[Called<'a>]) -> Option<Spot<'a>>
     ensures { Finds call_entry call_name (IsUndefined (map template_form templates.now)) (map called_of calls.now) (option_map spot_of result) }
 {
     let mut first = None;
@@ -199,14 +199,14 @@ pub(crate) fn first_undefined<'a>(templates: &[Template], calls: &[Called<'a>]) 
 /// The first spot so far, where the call comes behind and may have another number of arguments than
 /// its template has parameters.
 fn with_other_arity<'a>(
-    templates: &[Template],
+    templates: &Templates<'_>,
     first: Option<Spot<'a>>,
     call: Called<'a>,
 ) -> Option<Spot<'a>>
     ensures { (cs : List CallAt) → Finds call_entry call_name (HasOtherArity (map template_form templates.now)) cs (option_map spot_of first.entry)
         → Finds call_entry call_name (HasOtherArity (map template_form templates.now)) (cs ++ called_of call.entry ∷ []) (option_map spot_of result) }
 {
-    let Some(template) = template_named(templates, call.name) else {
+    let Some(template) = templates.named(call.name) else {
         return first;
     };
     if template.params.list().len() == call.args.len() {
@@ -222,7 +222,7 @@ fn with_other_arity<'a>(
 /// The first call, in written order, that has another number of arguments than its template has
 /// parameters.
 pub(crate) fn first_other_arity<'a>(
-    templates: &[Template],
+    templates: &Templates<'_>,
     calls: &[Called<'a>],
 ) -> Option<Spot<'a>>
     ensures { Finds call_entry call_name (HasOtherArity (map template_form templates.now)) (map called_of calls.now) (option_map spot_of result) }

@@ -8,6 +8,7 @@ use crate::calls::{Called, draft_calls, first_other_arity, first_undefined};
 use crate::cycles::first_cycle;
 use crate::fault::TemplateFault;
 use crate::heads::repeated;
+use crate::templates::Templates;
 use lfg_terms::Draft;
 use std::alloc::Global;
 
@@ -25,13 +26,18 @@ fn check_heads(alloc: Global, draft: &Draft) -> Result<(), TemplateFault>
 }
 
 /// Refuses a draft in which a call names no template.
-fn check_names(draft: &Draft, calls: &[Called<'_>]) -> Result<(), TemplateFault>
+fn check_names(
+    draft: &Draft,
+    templates: &Templates<'_>,
+    calls: &[Called<'_>],
+) -> Result<(), TemplateFault>
+    requires templates { templates.now ≡ draft.now.templates }
     requires calls { map called_of calls.now ≡ draft_calls (draft_form draft.now) }
     requires once { NoneRepeated (draft_form draft.now) }
     ensures kept { OnOk result (NoneUndefined (draft_form draft.now)) }
     ensures broken { IfErr result (λ fault. Refuses (draft_form draft.now) fault) }
 {
-    let Some(spot) = first_undefined(draft.templates.list(), calls) else {
+    let Some(spot) = first_undefined(templates, calls) else {
         return Ok(());
     };
     let name = spot.name.clone()?;
@@ -39,14 +45,19 @@ fn check_names(draft: &Draft, calls: &[Called<'_>]) -> Result<(), TemplateFault>
 }
 
 /// Refuses a draft in which a call has another number of arguments than its template has parameters.
-fn check_arities(draft: &Draft, calls: &[Called<'_>]) -> Result<(), TemplateFault>
+fn check_arities(
+    draft: &Draft,
+    templates: &Templates<'_>,
+    calls: &[Called<'_>],
+) -> Result<(), TemplateFault>
+    requires templates { templates.now ≡ draft.now.templates }
     requires calls { map called_of calls.now ≡ draft_calls (draft_form draft.now) }
     requires once { NoneRepeated (draft_form draft.now) }
     requires defined { NoneUndefined (draft_form draft.now) }
     ensures kept { OnOk result (NoneOtherArity (draft_form draft.now)) }
     ensures broken { IfErr result (λ fault. Refuses (draft_form draft.now) fault) }
 {
-    let Some(spot) = first_other_arity(draft.templates.list(), calls) else {
+    let Some(spot) = first_other_arity(templates, calls) else {
         return Ok(());
     };
     let name = spot.name.clone()?;
@@ -54,14 +65,19 @@ fn check_arities(draft: &Draft, calls: &[Called<'_>]) -> Result<(), TemplateFaul
 }
 
 /// Refuses a draft in which a template calls itself.
-fn check_cycles(alloc: Global, draft: &Draft) -> Result<(), TemplateFault>
+fn check_cycles(
+    alloc: Global,
+    draft: &Draft,
+    templates: &Templates<'_>,
+) -> Result<(), TemplateFault>
+    requires templates { templates.now ≡ draft.now.templates }
     requires once { NoneRepeated (draft_form draft.now) }
     requires defined { NoneUndefined (draft_form draft.now) }
     requires fitting { NoneOtherArity (draft_form draft.now) }
     ensures kept { OnOk result (NoneCyclic (draft_form draft.now)) }
     ensures broken { IfErr result (λ fault. Refuses (draft_form draft.now) fault) }
 {
-    let first = first_cycle(alloc, draft.templates.list())?;
+    let first = first_cycle(alloc, templates)?;
     let Some(spot) = first else {
         return Ok(());
     };
@@ -70,13 +86,18 @@ fn check_cycles(alloc: Global, draft: &Draft) -> Result<(), TemplateFault>
 }
 
 /// Refuses a draft that breaks one of the rules, but for that on the number of schemata.
-pub(crate) fn check(alloc: Global, draft: &Draft) -> Result<(), TemplateFault>
+pub(crate) fn check(
+    alloc: Global,
+    draft: &Draft,
+    templates: &Templates<'_>,
+) -> Result<(), TemplateFault>
+    requires { templates.now ≡ draft.now.templates }
     ensures kept { OnOk result (Fits (draft_form draft.now)) }
     ensures broken { IfErr result (λ fault. Refuses (draft_form draft.now) fault) }
 {
     check_heads(alloc, draft)?;
     let calls = draft_calls(alloc, draft)?;
-    check_names(draft, &calls)?;
-    check_arities(draft, &calls)?;
-    check_cycles(alloc, draft)
+    check_names(draft, templates, &calls)?;
+    check_arities(draft, templates, &calls)?;
+    check_cycles(alloc, draft, templates)
 }

@@ -4,8 +4,8 @@ ghost use Rattle.lfg_model.specs.RightSides.{draft_schema_of, draft_annotation_o
 ghost use Rattle.lfg_model.specs.DraftForms.{template_form};
 ghost use Rattle.lfg_templates.specs.Counts.{one_count, all_count, option_count, call_count, side_count, sides_count, capped};
 
-use crate::templates::template_named;
-use lfg_terms::{PathExpr, Rhs, Schema, Template};
+use crate::templates::Templates;
+use lfg_terms::{PathExpr, Rhs, Schema};
 
 /// The greatest number of schemata of the rules and the lexicon of a draft, once its templates are
 /// expanded.
@@ -23,7 +23,7 @@ pub(crate) fn capped_sum(a: u32, b: u32) -> u32
 /// How many schemata these become once each call is replaced, or one more than the limit. The calls
 /// are followed at most `depth` deep, and no further than to the limit.
 #[cycle(count)]
-pub(crate) fn count_all(templates: &[Template], depth: usize, schemata: &[Schema<PathExpr>]) -> u32
+pub(crate) fn count_all(templates: &Templates<'_>, depth: usize, schemata: &[Schema<PathExpr>]) -> u32
     ensures { result ≡ capped (all_count (call_count (map template_form templates.now) depth) (draft_annotation_of schemata.now)) }
 {
     let mut sum = 0;
@@ -38,7 +38,7 @@ pub(crate) fn count_all(templates: &[Template], depth: usize, schemata: &[Schema
 
 /// How many schemata this one becomes, or one more than the limit.
 #[cycle(count)]
-fn count_one(templates: &[Template], depth: usize, schema: &Schema<PathExpr>) -> u32
+fn count_one(templates: &Templates<'_>, depth: usize, schema: &Schema<PathExpr>) -> u32
     ensures { result ≡ capped (one_count (call_count (map template_form templates.now) depth) (draft_schema_of schema.now)) }
 {
     match schema {
@@ -59,7 +59,7 @@ fn count_one(templates: &[Template], depth: usize, schema: &Schema<PathExpr>) ->
             sum
         }
         Schema::Call { name, .. } => {
-            let Some(template) = template_named(templates, name) else {
+            let Some(template) = templates.named(name) else {
                 return 0;
             };
             if depth == 0 {
@@ -72,7 +72,7 @@ fn count_one(templates: &[Template], depth: usize, schema: &Schema<PathExpr>) ->
 
 /// How many schemata the annotation of an item becomes, or one more than the limit.
 fn count_option(
-    templates: &[Template],
+    templates: &Templates<'_>,
     depth: usize,
     schemata: &Option<Vec<Schema<PathExpr>>>,
 ) -> u32
@@ -86,7 +86,7 @@ fn count_option(
 
 /// How many schemata the right side has then, or one more than the limit.
 #[cycle(side)]
-pub(crate) fn count_side(templates: &[Template], depth: usize, side: &Rhs) -> u32
+pub(crate) fn count_side(templates: &Templates<'_>, depth: usize, side: &Rhs) -> u32
     ensures { result ≡ capped (side_count (call_count (map template_form templates.now) depth) (right_side_of side.now)) }
 {
     match side {
@@ -101,7 +101,7 @@ pub(crate) fn count_side(templates: &[Template], depth: usize, side: &Rhs) -> u3
 
 /// How many schemata the right sides have then, or one more than the limit.
 #[cycle(side)]
-fn count_sides(templates: &[Template], depth: usize, sides: &[Rhs]) -> u32
+fn count_sides(templates: &Templates<'_>, depth: usize, sides: &[Rhs]) -> u32
     ensures { result ≡ capped (sides_count (call_count (map template_form templates.now) depth) (right_sides_of sides.now)) }
 {
     let mut sum = 0;

@@ -7,22 +7,28 @@ ghost use Rattle.lfg_templates.specs.Faults.{Breaks, Refuses, Fits};
 use crate::checks::check;
 use crate::fault::TemplateFault;
 use crate::plain::plain;
+use crate::templates::Templates;
 use crate::totals::first_too_much;
 use lfg_terms::{Draft, Plain};
 use std::alloc::Global;
 
 /// Replaces the calls of a draft that breaks no rule but maybe that on the number of schemata.
-fn expand_fitting(alloc: Global, draft: &Draft) -> Result<Plain, TemplateFault>
-    requires { Fits (draft_form draft.now) }
+fn expand_fitting(
+    alloc: Global,
+    draft: &Draft,
+    templates: &Templates<'_>,
+) -> Result<Plain, TemplateFault>
+    requires templates { templates.now ≡ draft.now.templates }
+    requires fits { Fits (draft_form draft.now) }
     ensures expanded { IfOk result (λ p. IsExpanded (draft_form draft.now) (plain_form p)) }
     ensures refused { IfErr result (λ fault. Refuses (draft_form draft.now) fault) }
 {
     let depth = draft.templates.list().len();
-    let first = first_too_much(alloc, draft, depth)?;
+    let first = first_too_much(alloc, draft, templates, depth)?;
     if let Some(entry) = first {
         return Err(TemplateFault::TooMuch { entry });
     }
-    let plain = plain(alloc, draft, depth)?;
+    let plain = plain(alloc, draft, templates, depth)?;
     Ok(plain)
 }
 
@@ -31,8 +37,9 @@ fn expand_checked(alloc: Global, draft: &Draft) -> Result<Plain, TemplateFault>
     ensures expanded { IfOk result (λ p. IsExpanded (draft_form draft.now) (plain_form p)) }
     ensures refused { IfErr result (λ fault. Refuses (draft_form draft.now) fault) }
 {
-    check(alloc, draft)?;
-    expand_fitting(alloc, draft)
+    let templates = Templates::new(alloc, draft.templates.list())?;
+    check(alloc, draft, &templates)?;
+    expand_fitting(alloc, draft, &templates)
 }
 
 /// The draft with each call of a template replaced: by the annotation of the template, in which the

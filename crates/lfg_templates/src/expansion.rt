@@ -7,8 +7,8 @@ ghost use Rattle.lfg_templates.specs.Views.{binding_of};
 ghost use Rattle.lfg_templates.specs.Depth.{AllLead};
 
 use crate::bound::{Bound, des_with, name_with, names_with, val_with};
-use crate::templates::template_named;
-use lfg_terms::{Des, Name, PathExpr, Schema, Template, Val};
+use crate::templates::Templates;
+use lfg_terms::{Des, Name, PathExpr, Schema, Val};
 use std::alloc::{AllocError, Global};
 
 /// The schema alone.
@@ -77,7 +77,7 @@ fn maybe(inside: Vec<Schema<PathExpr>>) -> Schema<PathExpr>
 #[cycle(expand)]
 pub(crate) fn expand_all(
     alloc: Global,
-    templates: &[Template],
+    templates: &Templates<'_>,
     depth: usize,
     bound: &Bound<'_>,
     schemata: &[Schema<PathExpr>],
@@ -97,7 +97,7 @@ pub(crate) fn expand_all(
 #[cycle(expand)]
 fn expand_one(
     alloc: Global,
-    templates: &[Template],
+    templates: &Templates<'_>,
     depth: usize,
     bound: &Bound<'_>,
     schema: &Schema<PathExpr>,
@@ -143,7 +143,7 @@ fn expand_one(
         }
         Schema::Call { name, args } => {
             let args = names_with(alloc, bound, args.list())?;
-            let Some(template) = template_named(templates, name) else {
+            let Some(template) = templates.named(name) else {
                 unreachable!()
             };
             let bound = Bound {

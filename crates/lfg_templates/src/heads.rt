@@ -2,11 +2,14 @@ ghost use Rattle.std.specs.Prelude.{◌≡◌, ◌≢◌, ◌↔◌, IfOk, IsTru
 ghost use Rattle.std.specs.Option.{option_map};
 ghost use Rattle.lfg_model.specs.Lists.{In};
 ghost use Rattle.lfg_model.specs.DraftForms.{draft_form, rule_form, template_form, word_form};
+ghost use Rattle.lfg_model.specs.TemplateRules as written;
 ghost use Rattle.lfg_model.specs.TemplateRules.{HeadsBefore, Headed, Twice, Repeated, headed, heads, head_entry, rule_head, template_head, reading_head, head_name};
+ghost use Rattle.lfg_templates.specs.Headings.{Tells};
 ghost use Rattle.lfg_templates.specs.Spots.{Finds};
 ghost use Rattle.lfg_templates.specs.Views.{head_of, spot_of};
 
 use crate::spots::{Spot, earlier};
+use indexmap::{IndexMap, IndexSet};
 use lfg_terms::{Draft, DraftRule, LexEntry, Name, Template};
 use std::alloc::{AllocError, Global};
 
@@ -64,80 +67,103 @@ fn reading_heads<'a>(alloc: Global, entries: &'a [LexEntry]) -> Result<Vec<Head<
     Ok(out)
 }
 
-/// Whether both have one name, and head different entries.
-fn is_same_name(other: &Head<'_>, head: &Head<'_>) -> bool
-    ensures { IsTrue result ↔ ((head_of other.now).name ≡ (head_of head.now).name) × ((head_of other.now).entry ≢ (head_of head.now).entry) }
-{
-    *other.name == *head.name && other.entry != head.entry
+/// What is known of a name that heads an entry: the number of that entry, and whether the name heads
+/// another one too.
+#[derive(Clone, Copy, Debug, Drop)]
+pub(crate) struct Heading {
+    pub entry: u32,
+    pub again: bool,
 }
 
-/// Whether the name heads another entry before.
-fn heads_before(head: &Head<'_>, earlier: &[Head<'_>]) -> bool
-    ensures yes { IsTrue result → HeadsBefore (head_of head.now) (map head_of earlier.now) }
-    ensures no { result ≡ false → ¬ HeadsBefore (head_of head.now) (map head_of earlier.now) }
+/// What is known of a name once it heads this entry too.
+fn with_entry(before: Option<Heading>, entry: u32) -> Heading
+    ensures { (hs : List written.Head) (h : written.Head) → h.entry ≡ entry → Tells hs h.name before → Tells (hs ++ h ∷ []) h.name (Some result) }
 {
-    for other in earlier {
-        if is_same_name(other, head) {
-            return true;
-        }
+    let Some(heading) = before else {
+        return Heading {
+            entry,
+            again: false,
+        };
+    };
+    if heading.entry == entry {
+        return heading;
     }
-    false
+    Heading {
+        entry: heading.entry,
+        again: true,
+    }
 }
 
-/// Whether the name stands among the others.
-fn is_among(name: &Name, others: &[Name]) -> bool
-    ensures yes { IsTrue result → In name.now others.now }
-    ensures no { result ≡ false → ¬ In name.now others.now }
+/// Whether a name of which this is known heads another entry than this one.
+fn heads_another(before: Option<Heading>, entry: u32) -> bool
+    ensures yes { IsTrue result → (hs : List written.Head) (h : written.Head) → h.entry ≡ entry → Tells hs h.name before → HeadsBefore h hs }
+    ensures no { result ≡ false → (hs : List written.Head) (h : written.Head) → h.entry ≡ entry → Tells hs h.name before → ¬ HeadsBefore h hs }
 {
-    for other in others {
-        if *other == *name {
-            return true;
-        }
+    let Some(heading) = before else {
+        return false;
+    };
+    if heading.entry != entry {
+        return true;
     }
-    false
+    heading.again
 }
 
 /// Whether a name stands among these twice.
-fn is_twice(names: &[Name]) -> bool
-    ensures yes { IsTrue result → Twice names.now }
-    ensures no { result ≡ false → ¬ Twice names.now }
+fn is_twice(alloc: Global, names: &[Name]) -> Result<bool, AllocError>
+    ensures yes { IfOk result (λ twice. IsTrue twice → Twice names.now) }
+    ensures no { IfOk result (λ twice. twice ≡ false → ¬ Twice names.now) }
 {
-    for (i, name) in names.iter().enumerate() {
-        if is_among(name, &names[..i]) {
-            return true;
+    let mut before = IndexSet::new(alloc);
+    for name in names {
+        if before.contains(name) {
+            return Ok(true);
         }
+        before.insert(name.clone()?)?;
     }
-    false
+    Ok(false)
 }
 
-/// The first spot so far, where the head comes behind these and may be repeated.
-fn with_head<'a>(first: Option<Spot<'a>>, head: Head<'a>, before: &[Head<'a>]) -> Option<Spot<'a>>
-    ensures { (hs : List Headed) → Finds head_entry head_name Repeated hs (option_map spot_of first.entry)
-        → Finds head_entry head_name Repeated (hs ++ record { head = head_of head.entry; earlier = map head_of before.now } ∷ []) (option_map spot_of result) }
+/// The first spot so far, where the head comes behind some of which this is known of its name, and
+/// may be repeated.
+fn with_head<'a>(
+    alloc: Global,
+    first: Option<Spot<'a>>,
+    head: Head<'a>,
+    before: Option<Heading>,
+) -> Result<Option<Spot<'a>>, AllocError>
+    ensures { IfOk result (λ r. (hs : List Headed) (before_it : List written.Head) → Tells before_it head.entry.name.now before
+        → Finds head_entry head_name Repeated hs (option_map spot_of first.entry)
+        → Finds head_entry head_name Repeated (hs ++ record { head = head_of head.entry; earlier = before_it } ∷ []) (option_map spot_of r)) }
 {
     let spot = Spot {
         entry: head.entry,
         name: head.name,
     };
-    if heads_before(&head, before) {
-        return earlier(first, Some(spot));
+    if heads_another(before, head.entry) {
+        return Ok(earlier(first, Some(spot)));
     }
-    if is_twice(head.params) {
-        return earlier(first, Some(spot));
+    if is_twice(alloc, head.params)? {
+        return Ok(earlier(first, Some(spot)));
     }
-    first
+    Ok(first)
 }
 
 /// The first head of a section, in written order, that is repeated, or that names a parameter
 /// twice.
-fn first_repeated<'a>(heads: &[Head<'a>]) -> Option<Spot<'a>>
-    ensures { Finds head_entry head_name Repeated (headed (map head_of heads.now)) (option_map spot_of result) }
+fn first_repeated<'a>(
+    alloc: Global,
+    heads: &[Head<'a>],
+) -> Result<Option<Spot<'a>>, AllocError>
+    ensures { IfOk result (λ r. Finds head_entry head_name Repeated (headed (map head_of heads.now)) (option_map spot_of r)) }
 {
+    let mut headings = IndexMap::new(alloc);
     let mut first = None;
-    for (i, head) in heads.iter().enumerate() {
-        first = with_head(first, *head, &heads[..i]);
+    for head in heads {
+        let before = headings.get(head.name).copied();
+        first = with_head(alloc, first, *head, before)?;
+        headings.insert(head.name.clone()?, with_entry(before, head.entry))?;
     }
-    first
+    Ok(first)
 }
 
 /// The first head of the draft, in written order, that heads a second entry of its section, or that
@@ -148,6 +174,9 @@ pub(crate) fn repeated<'a>(alloc: Global, draft: &'a Draft) -> Result<Option<Spo
     let rules = rule_heads(alloc, draft.rules.list())?;
     let templates = template_heads(alloc, draft.templates.list())?;
     let readings = reading_heads(alloc, draft.entries.list())?;
-    let first = earlier(first_repeated(&rules), first_repeated(&templates));
-    Ok(earlier(first, first_repeated(&readings)))
+    let first_rule = first_repeated(alloc, &rules)?;
+    let first_template = first_repeated(alloc, &templates)?;
+    let first_reading = first_repeated(alloc, &readings)?;
+    let first = earlier(first_rule, first_template);
+    Ok(earlier(first, first_reading))
 }

@@ -11,13 +11,14 @@ ghost use Rattle.lfg_templates.specs.Depth.{AllLead, DraftLeads};
 use crate::bound::Bound;
 use crate::expansion::expand_all;
 use crate::sides::expand_side;
-use lfg_terms::{Draft, DraftRule, LexEntry, List, Plain, Setting, Template};
+use crate::templates::Templates;
+use lfg_terms::{Draft, DraftRule, LexEntry, List, Plain, Setting};
 use std::alloc::{AllocError, Global};
 
 /// The rule, each call replaced.
 fn expand_rule(
     alloc: Global,
-    templates: &[Template],
+    templates: &Templates<'_>,
     depth: usize,
     rule: &DraftRule,
 ) -> Result<DraftRule, AllocError>
@@ -36,7 +37,7 @@ fn expand_rule(
 /// The rules, each call replaced.
 fn expand_rules(
     alloc: Global,
-    templates: &[Template],
+    templates: &Templates<'_>,
     depth: usize,
     rules: &[DraftRule],
 ) -> Result<Vec<DraftRule>, AllocError>
@@ -53,7 +54,7 @@ fn expand_rules(
 /// The reading, each call replaced.
 fn expand_reading(
     alloc: Global,
-    templates: &[Template],
+    templates: &Templates<'_>,
     depth: usize,
     entry: &LexEntry,
 ) -> Result<LexEntry, AllocError>
@@ -78,7 +79,7 @@ fn expand_reading(
 /// The readings, each call replaced.
 fn expand_readings(
     alloc: Global,
-    templates: &[Template],
+    templates: &Templates<'_>,
     depth: usize,
     entries: &[LexEntry],
 ) -> Result<Vec<LexEntry>, AllocError>
@@ -117,11 +118,16 @@ fn copy_settings(alloc: Global, settings: &[Setting]) -> Result<Vec<Setting>, Al
 }
 
 /// The draft, each call replaced. The calls go at most `depth` deep.
-pub(crate) fn plain(alloc: Global, draft: &Draft, depth: usize) -> Result<Plain, AllocError>
-    requires { DraftLeads (draft_form draft.now) depth }
+pub(crate) fn plain(
+    alloc: Global,
+    draft: &Draft,
+    templates: &Templates<'_>,
+    depth: usize,
+) -> Result<Plain, AllocError>
+    requires templates { templates.now ≡ draft.now.templates }
+    requires leads { DraftLeads (draft_form draft.now) depth }
     ensures { IfOk result (λ p. Expands (draft_form draft.now) (plain_form p)) }
 {
-    let templates = draft.templates.list();
     let settings = copy_settings(alloc, draft.settings.list())?;
     let rules = expand_rules(alloc, templates, depth, draft.rules.list())?;
     let entries = expand_readings(alloc, templates, depth, draft.entries.list())?;

@@ -8,7 +8,8 @@ ghost use Rattle.lfg_templates.specs.Depth.{AllLead};
 
 use crate::bound::Bound;
 use crate::expansion::expand_all;
-use lfg_terms::{Name, PathExpr, Rhs, Schema, Template};
+use crate::templates::Templates;
+use lfg_terms::{Name, PathExpr, Rhs, Schema};
 use std::alloc::{AllocError, Global};
 
 #[tactic(auto, using(lfg_model::proofs::RightSideViews::view_item))]
@@ -56,7 +57,7 @@ fn plus(alloc: Global, inside: Rhs) -> Result<Rhs, AllocError>
 /// What an item of a right side becomes once each call in its annotation is replaced.
 fn expand_item(
     alloc: Global,
-    templates: &[Template],
+    templates: &Templates<'_>,
     depth: usize,
     cat: &Name,
     schemata: &Option<Vec<Schema<PathExpr>>>,
@@ -82,7 +83,7 @@ fn expand_item(
 #[cycle(side)]
 pub(crate) fn expand_side(
     alloc: Global,
-    templates: &[Template],
+    templates: &Templates<'_>,
     depth: usize,
     side: &Rhs,
 ) -> Result<Rhs, AllocError>
@@ -103,7 +104,7 @@ pub(crate) fn expand_side(
 #[cycle(side)]
 fn expand_sides(
     alloc: Global,
-    templates: &[Template],
+    templates: &Templates<'_>,
     depth: usize,
     sides: &[Rhs],
 ) -> Result<Vec<Rhs>, AllocError>

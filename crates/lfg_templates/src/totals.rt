@@ -6,7 +6,8 @@ ghost use Rattle.lfg_templates.specs.Counts.{call_count, rule_count, reading_cou
 ghost use Rattle.lfg_templates.specs.Views.{weight_of};
 
 use crate::count::{SCHEMA_LIMIT, count_all, count_side};
-use lfg_terms::{Draft, DraftRule, LexEntry, Template};
+use crate::templates::Templates;
+use lfg_terms::{Draft, DraftRule, LexEntry};
 use std::alloc::{AllocError, Global};
 
 /// How many schemata an entry has, or one more than the limit.
@@ -19,7 +20,7 @@ pub(crate) struct Weight {
 /// Appends the numbers of schemata of the rules, once calls are replaced.
 fn push_rule_weights(
     out: &mut Vec<Weight>,
-    templates: &[Template],
+    templates: &Templates<'_>,
     depth: usize,
     rules: &[DraftRule],
 ) -> Result<(), AllocError>
@@ -38,7 +39,7 @@ fn push_rule_weights(
 /// Appends the numbers of schemata of the readings of the lexicon, once calls are replaced.
 fn push_reading_weights(
     out: &mut Vec<Weight>,
-    templates: &[Template],
+    templates: &Templates<'_>,
     depth: usize,
     entries: &[LexEntry],
 ) -> Result<(), AllocError>
@@ -74,13 +75,14 @@ fn first_over(weights: &[Weight]) -> Option<u32>
 pub(crate) fn first_too_much(
     alloc: Global,
     draft: &Draft,
+    templates: &Templates<'_>,
     depth: usize,
 ) -> Result<Option<u32>, AllocError>
+    requires { templates.now ≡ draft.now.templates }
     ensures { IfOk result (λ first. MatchOption first
         (whole_size (draft_counts (call_count (map template_form draft.now.templates) depth) (draft_form draft.now)) ≤ schema_limit)
         (λ entry. Passes schema_limit (draft_counts (call_count (map template_form draft.now.templates) depth) (draft_form draft.now)) entry)) }
 {
-    let templates = draft.templates.list();
     let mut weights = Vec::new(alloc);
     push_rule_weights(&mut weights, templates, depth, draft.rules.list())?;
     push_reading_weights(&mut weights, templates, depth, draft.entries.list())?;

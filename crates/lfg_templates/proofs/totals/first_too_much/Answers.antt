@@ -10,6 +10,6 @@ first_over-requires c = rw c.deref.ensures.value (IsNonDecreasingBy-from_sort_by
 
 pub returns : goal.returns
 returns c =
-    let e = counted c.args.depth c.args.draft.now c.list-templates.result.now c.list.result.now c.list-2.result.now c.new-weights.result.items c.push_rule_weights.new.out.items c.push_reading_weights.new.out.items
-    c.list-templates.ensures c.list.ensures c.list-2.ensures c.new-weights.ensures.items c.in_ok-push_rule_weights.ensures c.in_ok-push_reading_weights.ensures in
+    let e = counted c.args.depth c.args.draft.now c.args.templates.now c.list.result.now c.list-2.result.now c.new-weights.result.items c.push_rule_weights.new.out.items c.push_reading_weights.new.out.items
+    c.requires c.list.ensures c.list-2.ensures c.new-weights.ensures.items c.in_ok-push_rule_weights.ensures c.in_ok-push_reading_weights.ensures in
     same_first (draft_counts (call_count (map template_form c.args.draft.now.templates) c.args.depth) (draft_form c.args.draft.now)) c.push_reading_weights.new.out.items c.sort_by_key.new.self.items e c.in_ok-sort_by_key.ensures.permutation c.first_over.result (rw (← c.deref.ensures.value) c.first_over.ensures)

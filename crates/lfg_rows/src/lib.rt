@@ -1,0 +1,15 @@
+//! Worked examples that cross crates, with the calls that they share: from a grammar file and a line
+//! to the chart.
+#![tactic(auto)]
+
+mod charted;
+mod fault;
+#[cfg(test)]
+mod charts;
+#[cfg(test)]
+mod files;
+#[cfg(test)]
+mod words;
+
+pub use charted::{Charted, chart_of};
+pub use fault::ChartFault;
