@@ -1,24 +1,33 @@
 -- Packed values while contexts grow and stores change. Crates above name these lemmas in
 -- `using(lfg_store::proofs::Packings::packing)`.
 use Rattle.std.proofs.Common.{◌≡◌, ◌≢◌, ℕ, ◌≤◌, Bool, true, false, cond, List, [], ◌∷◌, length, refl, sym, ◌∙◌, ap, subst, inl, inr, ◌⊎◌, Less, Equal}
-use Rattle.std.specs.Prelude.{◌↔◌}
+use Rattle.std.specs.Prelude.{◌↔◌, not, filter}
 use Rattle.std.specs.List.Sorted.{IsStrictlySortedBy}
 use Rattle.lfg_terms.specs.declared.choice.Choice.{Choice}
 use Rattle.lfg_terms.specs.Order.{fact_cmp}
 use Rattle.lfg_terms.specs.OrderLaws.{fact_cmp_total}
 use Rattle.lfg_terms.specs.declared.node.Fact.{Fact}
 use Rattle.lfg_model.specs.Lists.{In, here, later, Lists}
-use Rattle.lfg_model.proofs.ListLaws.{In-nil, In-map}
+use Rattle.lfg_model.proofs.ListLaws.{In-nil, In-cons_cases, In-map}
 use Rattle.lfg_model.proofs.Ascending.{all_in, same_members, once_from_total}
 use Rattle.lfg_context.specs.Cubes.{set_at}
 use Rattle.lfg_context.specs.Seen.{Set, Known}
 use Rattle.lfg_context.specs.Sets.{Assignment, member, arity_of, IsMade, IsGrown, HasSamePicks, HasPicksOf, DependsOnFirst}
 use Rattle.lfg_context.proofs.Growing.{made_grown, are_made_grown, picks_kept}
-use Rattle.lfg_store.specs.Facts.{Entries, facts_at, facts_of, with_fact, without_fact, context_of, IsStore}
+use Rattle.lfg_store.specs.Facts.{Entries, facts_at, facts_of, same_fact, with_fact, without_fact, context_of, IsStore}
 use Rattle.lfg_store.specs.Packing.{AreMadeBy, DependOnFirst, LieIn, ArePacked, IsPacked}
 use Rattle.lfg_store.proofs.Held.{held_from, In-held}
 use Rattle.lfg_store.proofs.Inserting.{equal_self}
 use Rattle.lfg_store.proofs.Collecting.{In-with}
+
+-- what a test keeps stood before
+In_from_filter : {X : Type 0} (p : X → Bool) (xs : List X) {x : X} → In x (filter p xs) → In x xs
+In_from_filter p [] i = In-nil i
+In_from_filter {X} p (y ∷ xs) {x} i = by_test (p y) (λ j. In_from_filter p xs j) i
+  where
+    by_test : (b : Bool) → (In x (filter p xs) → In x xs) → In x (cond b (y ∷ filter p xs) (filter p xs)) → In x (y ∷ xs)
+    by_test true ih j = elim (In-cons_cases j) [ inl e ↦ subst (λ (v : X). In v (y ∷ xs)) (sym e) here | inr k ↦ later (ih k) ]
+    by_test false ih j = later (ih j)
 
 -- a fact has one entry
 self_not_less : (f : Fact) {P : Type 0} → fact_cmp f f ≡ Less → P
@@ -97,6 +106,14 @@ added_lies good old new f x l within is = lies_from_facts good new (λ a g i. by
     by_member : (a : Assignment) (g : Fact) (b : Bool) → member x a ≡ b → In g (cond b (with_fact f (facts_at old a)) (facts_at old a)) → member good a ≡ true
     by_member a g true m i = within a m
     by_member a g false m i = facts_from_lies good old a g l i
+
+pub removed_lies : (good : Set) (old new : Entries) (f : Fact) (x : Set) → LieIn good old
+    → ((a : Assignment) → facts_at new a ≡ cond (member x a) (without_fact f (facts_at old a)) (facts_at old a)) → LieIn good new
+removed_lies good old new f x l is = lies_from_facts good new (λ a g i. by_member a g (member x a) (let P : List Fact → Type 0 = λ fs. In g fs in subst P (is a) i))
+  where
+    by_member : (a : Assignment) (g : Fact) (b : Bool) → In g (cond b (without_fact f (facts_at old a)) (facts_at old a)) → member good a ≡ true
+    by_member a g true i = facts_from_lies good old a g l (In_from_filter (λ h. not (same_fact f h)) (facts_at old a) i)
+    by_member a g false i = facts_from_lies good old a g l i
 
 pub collected_lies : (good : Set) (es new : Entries) → LieIn good es → ((a : Assignment) → Lists fact_cmp (λ f. In f (facts_at es a)) (facts_at new a)) → LieIn good new
 collected_lies good es new l is = lies_from_facts good new (λ a f i. facts_from_lies good es a f l (((is a).exact f).0 i))

@@ -31,6 +31,11 @@ abbrev pub edited : Edit → Fact → List Fact → List Fact
 edited Add f gs = with_fact f gs
 edited Remove f gs = without_fact f gs
 
+-- how many entries there are at most after an edit of this many
+abbrev pub most : Edit → ℕ → ℕ
+most Add n = n + 1
+most Remove n = n
+
 -- at each assignment stand the facts that stand there among these entries
 pub record HasFactsOf (es new : Entries) : Type 0 where
   pub each : (a : Assignment) (g : Fact) → In g (facts_at new a) ↔ In g (facts_at es a)
@@ -41,4 +46,4 @@ pub record IsEdited (edit : Edit) (old : Entries) (f : Fact) (x : Set) (new : En
   pub facts : (a : Assignment) → facts_at new a ≡ (if member x a then edited edit f (facts_at old a) else facts_at old a)
   pub others : (g : Fact) → g ≢ f → context_of new g ≡ context_of old g
   pub store : IsStore new
-  pub growth : length new ≤ length old + 1
+  pub growth : length new ≤ most edit (length old)

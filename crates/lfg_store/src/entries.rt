@@ -167,6 +167,7 @@ pub(crate) fn collected(
     requires made { AreMadeBy contexts.old entries.now }
     ensures facts { IfOk result (λ store. HasFactsOf entries.now store.items) }
     ensures store { IfOk result (λ store. IsStore store.items) }
+    ensures shorter { IfOk result (λ store. length store.items ≤ length entries.now) }
     ensures made { IfOk result (λ store. AreMadeBy contexts.new store.items) }
     ensures grown { IsGrown contexts.old contexts.new }
     ensures picks { HasSamePicks contexts.old contexts.new }

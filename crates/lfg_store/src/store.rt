@@ -1,4 +1,4 @@
-ghost use Rattle.std.specs.Prelude.{◌≡◌, ◌≢◌, ℕ, ◌<◌, ◌≤◌, [], length, filter, slice_get, Some, IfOk, OnOk, OnErr, if◌then◌else◌};
+ghost use Rattle.std.specs.Prelude.{◌≡◌, ◌≢◌, ℕ, ◌+◌, ◌<◌, ◌≤◌, [], length, filter, slice_get, Some, IfOk, OnOk, OnErr, if◌then◌else◌};
 ghost use Rattle.std.specs.Option.{option_copied};
 ghost use Rattle.lfg_terms.specs.Order.{fact_cmp};
 ghost use Rattle.lfg_terms.specs.declared.node.Fact.{Fact};
@@ -6,7 +6,7 @@ ghost use Rattle.lfg_model.specs.Lists.{In, Lists};
 ghost use Rattle.lfg_context.specs.Sets.{Assignment, member, IsMade, IsGrown, HasSamePicks};
 ghost use Rattle.lfg_store.specs.Facts.{held, facts_at, context_of, with_fact, without_fact, is_of, has_argument, IsStore};
 ghost use Rattle.std.specs.Bool.{OnTrue, OnFalse};
-ghost use Rattle.lfg_store.specs.Edits.{HasRoom, IsEdited};
+ghost use Rattle.lfg_store.specs.Edits.{HasRoom, most, IsEdited};
 ghost use Rattle.lfg_store.specs.Packing.{AreMadeBy};
 
 use crate::edit::Edit;
@@ -72,6 +72,7 @@ impl FactStore {
         requires made { AreMadeBy contexts.old entries.items }
         ensures ok { IfOk result (λ store. (a : Assignment) → Lists fact_cmp (λ f. In f (facts_at entries.items a)) (facts_at store a)) }
         ensures store { IfOk result IsStore }
+        ensures shorter { IfOk result (λ store. length store ≤ length entries.items) }
         ensures made { IfOk result (AreMadeBy contexts.new) }
         ensures grown { IsGrown contexts.old contexts.new }
         ensures picks { HasSamePicks contexts.old contexts.new }
@@ -211,6 +212,7 @@ impl FactStore {
         ensures others { OnOk result ((g : Fact) → g ≢ fact.now → context_of self.new g ≡ context_of self.old g) }
         ensures refused { OnErr result (self.new ≡ self.old) }
         ensures store { IsStore self.new }
+        ensures longer { length self.new ≤ length self.old + 1 }
         ensures made { AreMadeBy contexts.new self.new }
         ensures grown { IsGrown contexts.old contexts.new }
         ensures picks { HasSamePicks contexts.old contexts.new }
@@ -237,6 +239,7 @@ impl FactStore {
         ensures others { OnOk result ((g : Fact) → g ≢ fact.now → context_of self.new g ≡ context_of self.old g) }
         ensures refused { OnErr result (self.new ≡ self.old) }
         ensures store { IsStore self.new }
+        ensures shorter { length self.new ≤ length self.old }
         ensures made { AreMadeBy contexts.new self.new }
         ensures grown { IsGrown contexts.old contexts.new }
         ensures picks { HasSamePicks contexts.old contexts.new }
@@ -258,6 +261,7 @@ impl FactStore {
         ensures ok { OnOk result (IsEdited edit self.old fact.now ctx.now self.new) }
         ensures refused { OnErr result (self.new ≡ self.old) }
         ensures store { IsStore self.new }
+        ensures growth { length self.new ≤ most edit (length self.old) }
         ensures made { AreMadeBy contexts.new self.new }
         ensures grown { IsGrown contexts.old contexts.new }
         ensures picks { HasSamePicks contexts.old contexts.new }
