@@ -15,3 +15,4 @@ mod FirstLaws
 pub mod Growing
 pub mod Depending
 mod SomeMember
+pub mod Telling

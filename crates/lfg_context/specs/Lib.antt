@@ -7,3 +7,4 @@ pub mod Ops
 pub mod Least
 pub mod Sets
 pub mod Props
+pub mod Telling
