@@ -1,0 +1,3 @@
+mod Tables
+mod Prefixes
+pub mod Places

@@ -1,0 +1,6 @@
+//! The closure of literals that hold in contexts: the f-structures of all derivations at once.
+#![tactic(auto)]
+
+mod closure;
+
+pub use closure::Closure;
