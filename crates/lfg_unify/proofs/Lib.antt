@@ -1,3 +1,4 @@
 mod Tables
 mod Prefixes
 pub mod Places
+mod RowLaws

@@ -2,5 +2,6 @@
 #![tactic(auto)]
 
 mod closure;
+mod table;
 
 pub use closure::Closure;
