@@ -2,3 +2,5 @@ mod Tables
 mod Prefixes
 pub mod Places
 mod RowLaws
+mod Sames
+mod SweepLaws

@@ -1,13 +1,13 @@
--- Literals that hold in contexts.
+-- What holds in contexts.
 use Rattle.std.specs.Prelude.{List, [], ◌∷◌, if◌then◌else◌}
 use Rattle.lfg_terms.specs.declared.literal.Literal.{Literal}
 use Rattle.lfg_context.specs.Seen.{Set}
 use Rattle.lfg_context.specs.Sets.{Assignment, member}
 
--- the literals that hold at the assignment, which are those whose context has it, in order
-abbrev pub holding : List (Literal × Set) → Assignment → List Literal
+-- what of a list holds at the assignment: that whose context has it, in order
+abbrev pub holding : {X : Type 0} → List (X × Set) → Assignment → List X
 holding [] a = []
-holding (l ∷ ls) a = if member l.1 a then l.0 ∷ holding ls a else holding ls a
+holding (x ∷ xs) a = if member x.1 a then x.0 ∷ holding xs a else holding xs a
 
 -- the literals, whatever their contexts
 abbrev pub literals_of : List (Literal × Set) → List Literal

@@ -1,3 +1,4 @@
 pub mod Holding
 pub mod Closures
 pub mod Rows
+pub mod Systems

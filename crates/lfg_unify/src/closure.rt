@@ -54,7 +54,7 @@ fn place_of(nodes: &[Node], node: &Node) -> Option<usize>
 }
 
 /// The context beside the place in the row; the empty one where it is not there.
-fn context_at<'a>(row: &'a [(usize, Ctx)], place: usize, empty: &'a Ctx) -> &'a Ctx
+pub(crate) fn context_at<'a>(row: &'a [(usize, Ctx)], place: usize, empty: &'a Ctx) -> &'a Ctx
     ensures { result.now ≡ context_in empty.now row.now place }
 {
     for entry in row {

@@ -2,6 +2,9 @@
 #![tactic(auto)]
 
 mod closure;
+mod rounds;
+mod same;
+mod system;
 mod table;
 
 pub use closure::Closure;

@@ -103,7 +103,8 @@ impl Table {
     /// The row of the place.
     pub fn row(&self, place: usize) -> &[(usize, Ctx)]
         requires { place < length self.now }
-        ensures { result.now ≡ row_of self.now place }
+        ensures row { result.now ≡ row_of self.now place }
+        ensures ascends { Ascends (length self.now) 0 result.now }
     {
         &self.rows[place]
     }
