@@ -4,3 +4,10 @@ pub mod Places
 mod RowLaws
 mod Sames
 mod SweepLaws
+mod SettleLaws
+mod MarkLaws
+mod StepLaws
+mod Transfer
+mod ClashLaws
+mod ClosureLaws
+mod PlacedLaws

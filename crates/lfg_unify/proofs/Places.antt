@@ -14,7 +14,7 @@ use Rattle.lfg_model.specs.Lists.{In, here, later}
 use Rattle.lfg_model.proofs.ListLaws.{In-cons_cases}
 use Rattle.lfg_model.proofs.RoundLaws.{node_tells}
 use Rattle.lfg_context.specs.Seen.{Set}
-use Rattle.lfg_unify.specs.Closures.{Row, Closed, IsClosedForm, Ascends, place_in, context_in, equal_of}
+use Rattle.lfg_unify.specs.Closures.{Row, Ascends, place_in, context_in}
 use Rattle.lfg_unify.proofs.Tables.{In_get, get_In, one_place, place_found, place_missing}
 
 if_true : {X : Type 0} (b : Bool) (x y : X) → b ≡ true → (if b then x else y) ≡ x
@@ -115,10 +115,9 @@ beyond_row none count from (r ∷ rs) j s h = if_false (r.0 == j) r.1 (context_i
     differ m n e = grind arith
 
 -- a node that is not there is equal to none
-pub equal_absent : (k : Closed) (ns : List Node) (x y : Node) → IsClosedForm k → ns ≡ k.nodes → place_in ns y ≡ length ns → k.empty ≡ equal_of k x y
-equal_absent k ns x y form e h =
-    let g : place_in k.nodes y ≡ length k.nodes = subst (λ (ms : List Node). place_in ms y ≡ length ms) e h in
-    sym (beyond_row k.empty (length k.nodes) 0 (slice_index_or k.rows (place_in k.nodes x) []) (place_in k.nodes y) (form.rows (place_in k.nodes x)) (omega (arith, g)))
-
-pub ascends_at : (k : Closed) (i : ℕ) (row : Row) → IsClosedForm k → row ≡ slice_index_or k.rows i [] → Ascends (length k.nodes) 0 row
-ascends_at k i row form e = subst (λ (r : Row). Ascends (length k.nodes) 0 r) (sym e) (form.rows i)
+pub equal_absent : (none : Set) (rows : List Row) (ns ms : List Node) (x y : Node) (p : ℕ) (row : Row) → length rows ≡ length ms → ns ≡ ms → place_in ns y ≡ length ns → p ≡ place_in ms x
+    → row ≡ slice_index_or rows p [] → Ascends (length rows) 0 row → none ≡ context_in none (slice_index_or rows (place_in ms x) []) (place_in ms y)
+equal_absent none rows ns ms x y p row count e h at is s =
+    let g : place_in ms y ≡ length ms = subst (λ (zs : List Node). place_in zs y ≡ length zs) e h in
+    let f : row ≡ slice_index_or rows (place_in ms x) [] = is ∙ ap (λ n. slice_index_or rows n []) at in
+    sym (beyond_row none (length rows) 0 (slice_index_or rows (place_in ms x) []) (place_in ms y) (subst (λ (r : Row). Ascends (length rows) 0 r) f s) (omega (arith, g, count)))

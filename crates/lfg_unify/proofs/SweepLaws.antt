@@ -313,7 +313,7 @@ link_links old new p q z all a w sources m l =
     (w.each a q.0.2).1 (inr (refl, m a ∙ and_from (member z a && member p.1 a) (member q.1 a) (and_from (member z a) (member p.1 a) (sources l.sources) l.first_holds) l.second_holds))
 
 -- what links in an earlier table links in a later one
-link_later : (p q : Arc) (old now : List Row) (a : Assignment) → ((a : Assignment) (i j : ℕ) → Has old a i j → Has now a i j) → IsLinked p q old a → IsLinked p q now a
+pub link_later : (p q : Arc) (old now : List Row) (a : Assignment) → ((a : Assignment) (i j : ℕ) → Has old a i j → Has now a i j) → IsLinked p q old a → IsLinked p q now a
 link_later p q old now a keeps l = record { name = l.name; first_holds = l.first_holds; second_holds = l.second_holds; sources = keeps a p.0.0 q.0.0 l.sources }
 
 pub linked_none : (firsts : List Arc) (rows : List Row) → AreLinked firsts [] rows rows

@@ -58,13 +58,12 @@ abbrev pub Ascends : ℕ → ℕ → Row → Type 0
 Ascends count from [] = Unit {0}
 Ascends count from (r ∷ rs) = (from ≤ r.0) × (r.0 < count) × Ascends count (suc r.0) rs
 
--- The form of a closure: nodes stand in order and once, there is a row for each node, which ascends,
--- and beside the listed arcs, values and members stand the places of their nodes. A member's place
--- comes before that of its set.
+-- The form of a closure: nodes stand in order and once, there is a row for each node, and beside the
+-- listed arcs, values and members stand the places of their nodes. A member's place comes before that
+-- of its set.
 pub record IsClosedForm (k : Closed) : Type 0 where
   pub ascends : IsStrictlySortedBy node_cmp k.nodes
   pub count : length k.rows ≡ length k.nodes
-  pub rows : (i : ℕ) → Ascends (length k.nodes) 0 (slice_index_or k.rows i [])
   pub arc_places : k.arc_places ≡ map (λ r. (place_in k.nodes r.0, place_in k.nodes r.2)) k.arcs
   pub value_places : k.value_places ≡ map (λ v. place_in k.nodes v.0) k.values
   pub member_places : k.member_places ≡ map (λ m. (place_in k.nodes m.0, place_in k.nodes m.1)) k.members

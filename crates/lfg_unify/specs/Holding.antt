@@ -1,6 +1,7 @@
 -- What holds in contexts.
-use Rattle.std.specs.Prelude.{List, [], ◌∷◌, if◌then◌else◌}
+use Rattle.std.specs.Prelude.{◌≡◌, true, List, [], ◌∷◌, if◌then◌else◌}
 use Rattle.lfg_terms.specs.declared.literal.Literal.{Literal}
+use Rattle.lfg_model.specs.Lists.{In}
 use Rattle.lfg_context.specs.Seen.{Set}
 use Rattle.lfg_context.specs.Sets.{Assignment, member}
 
@@ -13,3 +14,9 @@ holding (x ∷ xs) a = if member x.1 a then x.0 ∷ holding xs a else holding xs
 abbrev pub literals_of : List (Literal × Set) → List Literal
 literals_of [] = []
 literals_of (l ∷ ls) = l.0 ∷ literals_of ls
+
+-- x is stated in a context that has the assignment
+pub record Stated {X : Type 0} (xs : List (X × Set)) (a : Assignment) (x : X) : Type 0 where
+  pub set : Set
+  pub listed : In (x, set) xs
+  pub holds : member set a ≡ true

@@ -1,5 +1,5 @@
 -- Systems of equations between places, and how tables of pairs grow by their rules.
-use Rattle.std.specs.Prelude.{◌≡◌, ℕ, ◌<◌, ◌≤◌, true, List, length}
+use Rattle.std.specs.Prelude.{◌≡◌, ◌↔◌, ◌⊎◌, ℕ, ◌<◌, ◌≤◌, true, List, length}
 use Rattle.lfg_model.specs.Lists.{In}
 use Rattle.lfg_model.specs.Terms.{Name}
 use Rattle.lfg_model.specs.Equal.{Equal}
@@ -9,7 +9,7 @@ use Rattle.lfg_context.specs.Sets.{Assignment, member, AreMade}
 use Rattle.lfg_unify.specs.declared.system.System.{System}
 use Rattle.lfg_unify.specs.Closures.{Row}
 use Rattle.lfg_unify.specs.Rows.{Has}
-use Rattle.lfg_unify.specs.Holding.{holding}
+use Rattle.lfg_unify.specs.Holding.{holding, Stated}
 
 -- an arc between places, with its context
 abbrev pub Arc : Type 0
@@ -30,7 +30,6 @@ pub record IsSystem (count : ℕ) (s : System) : Type 0 where
   pub there : (e : ℕ × Set) → In e s.there.items → e.0 < count
   pub given : (e : (ℕ × ℕ) × Set) → In e s.given.items → (e.0.0 < count) × (e.0.1 < count)
   pub arcs : (e : Arc) → In e s.arcs.items → (e.0.0 < count) × (e.0.2 < count)
-  pub places : length s.there.items ≤ count
 
 -- the sets of a system were made by these contexts
 pub record AreSystemSets (k : Known) (s : System) : Type 0 where
@@ -72,7 +71,24 @@ pub record AreLinked (firsts seconds : List Arc) (old new : List Row) : Type 0 w
 pub record HasRounds (s : System) (n : ℕ) (rows : List Row) : Type 0 where
   pub each : (a : Assignment) (i j : ℕ) → RoundIn s a n i j → Has rows a i j
 
+-- the rules add nothing to the table
+pub record IsClosed (s : System) (rows : List Row) : Type 0 where
+  pub joined : IsJoined rows rows
+  pub linked : AreLinked s.arcs.items s.arcs.items rows rows
+
+-- the new table has what the old one has, and each place that is stated with itself
+pub record AddsThere (there : List (ℕ × Set)) (old new : List Row) : Type 0 where
+  pub each : (a : Assignment) (x y : ℕ) → Has new a x y ↔ (Has old a x y ⊎ ((x ≡ y) × Stated there a x))
+
+-- the new table has what the old one has, and each pair that is stated, both ways
+pub record AddsGiven (given : List ((ℕ × ℕ) × Set)) (old new : List Row) : Type 0 where
+  pub each : (a : Assignment) (x y : ℕ) → Has new a x y ↔ (Has old a x y ⊎ (Stated given a (x, y) ⊎ Stated given a (y, x)))
+
+-- the table has all pairs that are equal in the system
+pub record HasEqual (s : System) (rows : List Row) : Type 0 where
+  pub each : (a : Assignment) (i j : ℕ) → EqualIn s a i j → Has rows a i j
+
 -- the table has exactly the pairs that are equal in the system
 pub record Solves (s : System) (rows : List Row) : Type 0 where
   pub sound : IsSound s rows
-  pub all : (a : Assignment) (i j : ℕ) → EqualIn s a i j → Has rows a i j
+  pub all : HasEqual s rows

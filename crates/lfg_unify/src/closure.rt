@@ -4,6 +4,7 @@ ghost use Rattle.lfg_terms.specs.Order.{node_cmp};
 ghost use Rattle.lfg_model.specs.Lists.{In};
 ghost use Rattle.lfg_unify.specs.Closures.{place_in, context_in, equal_at, equal_of, Ascends};
 
+use crate::table::Table;
 use lfg_context::Ctx;
 use lfg_model::Constant;
 use lfg_terms::{Name, Node};
@@ -16,7 +17,7 @@ use std::marker::Model;
 #[derive(Drop)]
 pub struct Closure {
     pub(crate) nodes: Vec<Node>,
-    pub(crate) rows: Vec<Vec<(usize, Ctx)>>,
+    pub(crate) table: Table,
     pub(crate) arcs: Vec<(Node, Name, Node, Ctx)>,
     pub(crate) values: Vec<(Node, Constant, Ctx)>,
     pub(crate) members: Vec<(Node, Node, Ctx)>,
@@ -28,7 +29,6 @@ pub struct Closure {
 }
 
 impl Model for Closure {
-    ghost use Rattle.std.specs.Prelude.{map};
     ghost use Rattle.lfg_unify.specs.Closures.{Closed, IsClosedForm};
 
     ghost use Rattle.lfg_terms.specs.contracts.node.Node as node;
@@ -38,13 +38,13 @@ impl Model for Closure {
 
     ghost coded = { Prim.hlevel (codes, node.the_row.coded) };
 
-    ghost view = { λ k. record { nodes = k.nodes.items; rows = map (λ row. row.items) k.rows.items; arcs = k.arcs.items; values = k.values.items; members = k.members.items; arc_places = k.arc_places.items; value_places = k.value_places.items; member_places = k.member_places.items; clash = k.clash; empty = k.empty } };
+    ghost view = { λ k. record { nodes = k.nodes.items; rows = k.table; arcs = k.arcs.items; values = k.values.items; members = k.members.items; arc_places = k.arc_places.items; value_places = k.value_places.items; member_places = k.member_places.items; clash = k.clash; empty = k.empty } };
 
-    ghost invariant = { λ k. IsClosedForm (record { nodes = k.nodes.items; rows = map (λ row. row.items) k.rows.items; arcs = k.arcs.items; values = k.values.items; members = k.members.items; arc_places = k.arc_places.items; value_places = k.value_places.items; member_places = k.member_places.items; clash = k.clash; empty = k.empty }) };
+    ghost invariant = { λ k. IsClosedForm (record { nodes = k.nodes.items; rows = k.table; arcs = k.arcs.items; values = k.values.items; members = k.members.items; arc_places = k.arc_places.items; value_places = k.value_places.items; member_places = k.member_places.items; clash = k.clash; empty = k.empty }) };
 }
 
 /// The place of the node among the nodes.
-fn place_of(nodes: &[Node], node: &Node) -> Option<usize>
+pub(crate) fn place_of(nodes: &[Node], node: &Node) -> Option<usize>
     requires { IsStrictlySortedBy node_cmp nodes.now }
     ensures found { IfSome result (λ place. place ≡ place_in nodes.now node.now) }
     ensures within { IfSome result (λ place. place < length nodes.now) }
@@ -63,14 +63,6 @@ pub(crate) fn context_at<'a>(row: &'a [(usize, Ctx)], place: usize, empty: &'a C
         }
     }
     empty
-}
-
-/// The row of the place.
-fn row_at(rows: &[Vec<(usize, Ctx)>], place: usize) -> &[(usize, Ctx)]
-    requires { place < length rows.now }
-    ensures { result.now ≡ slice_index_or (map (λ row. row.items) rows.now) place [] }
-{
-    &rows[place]
 }
 
 impl Closure {
@@ -98,10 +90,11 @@ impl Closure {
         let Some(first) = place_of(&self.nodes, a) else {
             return &self.empty;
         };
+        let row = self.table.row(first);
         let Some(second) = place_of(&self.nodes, b) else {
             return &self.empty;
         };
-        context_at(&self.rows[first], second, &self.empty)
+        context_at(row, second, &self.empty)
     }
 
     /// The context in which the nodes at the two places are equal: the empty one where there is no
@@ -109,8 +102,8 @@ impl Closure {
     pub fn equal_at(&self, first: usize, second: usize) -> &Ctx
         ensures { result.now ≡ equal_at self.now first second }
     {
-        if first < self.rows.len() {
-            context_at(&self.rows[first], second, &self.empty)
+        if first < self.table.count() {
+            context_at(self.table.row(first), second, &self.empty)
         } else {
             &self.empty
         }
@@ -123,7 +116,7 @@ impl Closure {
         ensures row { result.now ≡ slice_index_or self.now.rows place [] }
         ensures ascends { Ascends (length self.now.nodes) 0 result.now }
     {
-        row_at(&self.rows, place)
+        self.table.row(place)
     }
 
     /// The arcs on the way to each node, with the contexts in which they are. Takes no memory.

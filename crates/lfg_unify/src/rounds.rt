@@ -116,7 +116,7 @@ pub(crate) fn sweep_row(
 
 /// Pairs all that is paired through a place. Tells whether the table grew.
 #[tactic(auto, using(crate::proofs::RowLaws::rows))]
-fn join_all(alloc: Global, table: &mut Table, contexts: &mut Contexts) -> Result<bool, AllocError>
+pub(crate) fn join_all(alloc: Global, table: &mut Table, contexts: &mut Contexts) -> Result<bool, AllocError>
     requires rows { AreRows contexts.old table.old }
     ensures grown { IsGrown contexts.old contexts.new }
     ensures picks { HasSamePicks contexts.old contexts.new }
@@ -207,7 +207,7 @@ fn link_from(
 /// Pairs the targets of all arcs by one attribute whose sources are paired. Tells whether the table
 /// grew.
 #[tactic(auto, using(crate::proofs::RowLaws::rows))]
-fn link_all(
+pub(crate) fn link_all(
     table: &mut Table,
     arcs: &[Arc],
     empty: &Ctx,

@@ -42,7 +42,7 @@ fn count_before(row: &[(usize, Ctx)], place: usize) -> usize
 
 /// Adds the place to the row where the context holds. Tells whether the row grew.
 #[tactic(auto, using(crate::proofs::RowLaws::rows))]
-fn widen_row(
+pub(crate) fn widen_row(
     row: &mut Vec<(usize, Ctx)>,
     count: usize,
     place: usize,
