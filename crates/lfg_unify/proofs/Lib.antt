@@ -11,3 +11,4 @@ mod Transfer
 mod ClashLaws
 mod ClosureLaws
 mod PlacedLaws
+pub mod Closed
