@@ -1,0 +1,10 @@
+use Rattle.std.proofs.Common.{◌≡◌, ℕ, length, map, take}
+use Rattle.std.specs.List.{flat_map}
+use Rattle.lfg_context.specs.Sets.{IsGrown, HasSamePicks}
+use Rattle.lfg_unify.specs.Closures.{Ascends, place_in}
+use Rattle.lfg_unify.specs.Rows.{IsRow}
+use Rattle.lfg_unify.specs.Marks.{arc_in, AreArcs, given_in, IsMarked, Marks, members_in, values_in}
+use Rattle.lfg_unify.proofs.collect.marked.Given as goal
+
+abbrev pub invariant-loop-literal : goal.invariant-loop-literal
+invariant-loop-literal l = record { grown : IsGrown l.fn.contexts l.contexts; picks : HasSamePicks l.fn.contexts l.contexts; ascends : Ascends (length l.nodes) 0 l.row.items; row : IsRow l.contexts l.row.items; marked : IsMarked l.nodes l.whole (take l.literal-index l.literals) l.row.items }

@@ -1,0 +1,10 @@
+use Rattle.std.proofs.Common.{◌≡◌, ℕ, length, map, take}
+use Rattle.std.specs.List.{flat_map}
+use Rattle.lfg_context.specs.Sets.{IsGrown, HasSamePicks}
+use Rattle.lfg_unify.specs.Closures.{Ascends, place_in}
+use Rattle.lfg_unify.specs.Rows.{IsRow}
+use Rattle.lfg_unify.specs.Marks.{arc_in, AreArcs, given_in, IsMarked, Marks, members_in, values_in}
+use Rattle.lfg_unify.proofs.collect.places_of_arcs.Given as goal
+
+abbrev pub invariant-loop-arc : goal.invariant-loop-arc
+invariant-loop-arc l = l.places.items ≡ map (λ r. (place_in l.nodes r.0, place_in l.nodes r.2)) (take l.arc-index l.arcs)

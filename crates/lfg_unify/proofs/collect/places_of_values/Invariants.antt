@@ -1,0 +1,10 @@
+use Rattle.std.proofs.Common.{◌≡◌, ℕ, length, map, take}
+use Rattle.std.specs.List.{flat_map}
+use Rattle.lfg_context.specs.Sets.{IsGrown, HasSamePicks}
+use Rattle.lfg_unify.specs.Closures.{Ascends, place_in}
+use Rattle.lfg_unify.specs.Rows.{IsRow}
+use Rattle.lfg_unify.specs.Marks.{arc_in, AreArcs, given_in, IsMarked, Marks, members_in, values_in}
+use Rattle.lfg_unify.proofs.collect.places_of_values.Given as goal
+
+abbrev pub invariant-loop-value : goal.invariant-loop-value
+invariant-loop-value l = l.places.items ≡ map (λ v. place_in l.nodes v.0) (take l.value-index l.values)

@@ -1,0 +1,13 @@
+use Rattle.std.proofs.Common.{refl}
+use Rattle.std.specs.Ordering.{eq_by_cmp}
+use Rattle.std.proofs.lemmas.List.Filters.{dedup_is}
+use Rattle.lfg_terms.specs.Order.{node_cmp}
+use Rattle.lfg_terms.specs.OrderLaws.{node_cmp_total}
+use Rattle.lfg_terms.proofs.Ties.{node_ties}
+use Rattle.lfg_model.proofs.Ascending.{sorted_set}
+use Rattle.lfg_unify.proofs.nodes.sorted_set.Goals as goal
+
+pub returns : goal.returns
+returns c =
+    sorted_set node_cmp_total node_ties (eq_by_cmp node_cmp) (λ x y. refl) _ _ _ c.sort.ensures.permutation c.in_ok-sort.ensures.sorted
+    (dedup_is (eq_by_cmp node_cmp) _ _ c.dedup.ensures.filtered)

@@ -1,0 +1,16 @@
+use Rattle.std.proofs.Common.{◌≡◌, ◌*◌, ℕ, length}
+use Rattle.lfg_context.specs.Sets.{IsGrown, HasSamePicks}
+use Rattle.lfg_unify.specs.declared.system.System.{System}
+use Rattle.lfg_unify.specs.Rows.{AreRows}
+use Rattle.lfg_unify.specs.Systems.{HasRounds, IsGrowth}
+use Rattle.lfg_unify.proofs.settle.settle.Given as goal
+
+abbrev pub invariant-loop-turn : goal.invariant-loop-turn
+invariant-loop-turn l = record {
+  grown : IsGrown l.fn.contexts l.contexts;
+  picks : HasSamePicks l.fn.contexts l.contexts;
+  len : length l.table ≡ length l.fn.table;
+  rows : AreRows l.contexts l.table;
+  growth : IsGrowth l.arcs l.fn.table l.table;
+  more : (s : System) → s.arcs.items ≡ l.arcs → HasRounds s 0 l.fn.table → HasRounds s (l._turn * l.count) l.table;
+}
