@@ -40,9 +40,10 @@ flat_append f (x ∷ xs) ys = ap (λ zs. f x ++ zs) (flat_append f xs ys) ∙ sy
 cut_out : {X : Type 0} (front : List X) (x : X) (back : List X) → Once (front ++ x ∷ back) → Once (front ++ back) × (In x (front ++ back) → ⊥)
 cut_out [] x back (more n o) = (o, n)
 cut_out {X} (y ∷ front) x back (more n o) =
-    let r = cut_out front x back o in
-    (more (λ i. n (elim (In-append_cases front back i) [ inl a ↦ In-append_left (x ∷ back) a | inr b ↦ In-append_right front (later b) ])) r.0,
-     λ i. elim (In-cons_cases i) [ inl e ↦ n (let P : X → Type 0 = λ z. In z (front ++ x ∷ back) in subst P e (In-append_right front here)) | inr j ↦ r.1 j ])
+    let r = cut_out front x back o in (
+      more (λ i. n (elim (In-append_cases front back i) [ inl a ↦ In-append_left (x ∷ back) a | inr b ↦ In-append_right front (later b) ])) r.0,
+      λ i. elim (In-cons_cases i) [ inl e ↦ n (let P : X → Type 0 = λ z. In z (front ++ x ∷ back) in subst P e (In-append_right front here)) | inr j ↦ r.1 j ],
+    )
 
 module _ {X Y : Type 0} (f : X → List Y) where
   -- what is listed at the elements comes in another order where they do
@@ -66,10 +67,13 @@ module _ {X Y : Type 0} (f : X → List Y) where
       let c = cut_out s.0 x s.1 (subst P s.2 q) in
       let there : (z : X) → In z (s.0 ++ x ∷ s.1) → In z (x ∷ xs) = λ z i. b z (let Q : List X → Type 0 = λ zs. In z zs in subst Q (sym s.2) i) in
       let back : (z : X) → In z (s.0 ++ s.1) → In z xs = λ z i. elim (In-cons_cases (there z (elim (In-append_cases s.0 s.1 i) [ inl l ↦ In-append_left (x ∷ s.1) l | inr r ↦ In-append_right s.0 (later r) ]))) [
-          inl e ↦ absurd (c.1 (let Q : X → Type 0 = λ w. In w (s.0 ++ s.1) in subst Q e i)) | inr j ↦ j ] in
+        | inl e ↦ absurd (c.1 (let Q : X → Type 0 = λ w. In w (s.0 ++ s.1) in subst Q e i))
+        | inr j ↦ j
+      ] in
       let forth : (z : X) → In z xs → In z (s.0 ++ s.1) = λ z i. elim (In-append_cases s.0 (x ∷ s.1) (let Q : List X → Type 0 = λ zs. In z zs in subst Q s.2 (a z (later i)))) [
-          inl l ↦ In-append_left s.1 l
-        | inr r ↦ elim (In-cons_cases r) [ inl e ↦ absurd (n (let Q : X → Type 0 = λ w. In w xs in subst Q e i)) | inr j ↦ In-append_right s.0 j ] ] in
+        | inl l ↦ In-append_left s.1 l
+        | inr r ↦ elim (In-cons_cases r) [ inl e ↦ absurd (n (let Q : X → Type 0 = λ w. In w xs in subst Q e i)) | inr j ↦ In-append_right s.0 j ]
+      ] in
       let rest = same_lists xs (s.0 ++ s.1) o c.0 forth back in
       let moved = IsPermutation-trans _ _ _ (IsPermutation-append (f x) (f x) _ _ (IsPermutation-refl (f x)) rest) (flat_middle s.0 x s.1) in
       let R : List X → Type 0 = λ zs. IsPermutation (flat_map f (x ∷ xs)) (flat_map f zs) in

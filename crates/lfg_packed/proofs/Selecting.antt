@@ -135,10 +135,13 @@ entries_found (w ∷ words) e = go (eq_by_cmp edge_cmp w.0 e) refl (entries_foun
         → ((v : Edge × List ℕ) × In v (w ∷ words) × (v.0 ≡ e) × (entries_at (w ∷ words) e ≡ v.1)) ⊎ ((In e (map (λ v. v.0) (w ∷ words)) → ⊥) × (entries_at (w ∷ words) e ≡ []))
     go true h rest = inl (w, here, tied edge_cmp edge_ties w.0 e h, is_one true h)
     go false h (inl r) = inl (r.0, later r.1, r.2, is_one false h ∙ r.3)
-    go false h (inr r) = inr ((λ i. elim (In-cons_cases i) [
-          | inl same ↦ (let t : eq_by_cmp edge_cmp w.0 e ≡ true = subst (λ (z : Edge). eq_by_cmp edge_cmp w.0 z ≡ true) (sym same) ((eq_by_cmp_equiv edge_cmp_total).refl w.0) in absurd (false≢true (sym h ∙ t)))
-          | inr j ↦ r.0 j
-        ]), is_one false h ∙ r.1)
+    go false h (inr r) = inr (
+      (λ i. elim (In-cons_cases i) [
+        | inl same ↦ (let t : eq_by_cmp edge_cmp w.0 e ≡ true = subst (λ (z : Edge). eq_by_cmp edge_cmp w.0 z ≡ true) (sym same) ((eq_by_cmp_equiv edge_cmp_total).refl w.0) in absurd (false≢true (sym h ∙ t)))
+        | inr j ↦ r.0 j
+      ]),
+      is_one false h ∙ r.1,
+    )
 
 module _ (g : Grammar) (s : List TokenForms) (loaded : Loaded g) where
   -- a word stands at an edge that stands
@@ -198,21 +201,23 @@ module _ (g : Grammar) (s : List TokenForms) (loaded : Loaded g) where
   kept_picks x (a_step rule p k is reach follow crosses ends) = tt
   kept_picks x (an_end rule k is reach end) = tt
   kept_picks x (item_pick {e} {q} {at} {mid} {picks} rule p item k is reach follow crosses ends listed fits) =
-      let same : annotation_of item.schemata ≡ annotation_at g (site.Item e p at mid) = sym (ap (λ r. item_annotation (item_at (items_of r) p)) is ∙ ap item_annotation listed) in
-      (subst (λ z. PicksFit picks (places z)) same fits,
-       λ other fit. (kept_is_standing g s (fillable g loaded) (APick (site.Item e p at mid) other)).0
-         (item_pick rule p item k is reach follow crosses ends listed (subst (λ z. PicksFit other (places z)) (sym same) fit)))
+      let same : annotation_of item.schemata ≡ annotation_at g (site.Item e p at mid) = sym (ap (λ r. item_annotation (item_at (items_of r) p)) is ∙ ap item_annotation listed) in (
+        subst (λ z. PicksFit picks (places z)) same fits,
+        λ other fit. (kept_is_standing g s (fillable g loaded) (APick (site.Item e p at mid) other)).0
+            (item_pick rule p item k is reach follow crosses ends listed (subst (λ z. PicksFit other (places z)) (sym same) fit)),
+      )
   kept_picks x (entry_pick {e} {k = n} {picks} lex k w listed fits) =
-      let same : annotation_of lex.schemata ≡ annotation_at g (site.Entry e n) = sym (ap entry_annotation listed) in
-      (subst (λ z. PicksFit picks (places z)) same fits,
-       λ other fit. (kept_is_standing g s (fillable g loaded) (APick (site.Entry e n) other)).0
-         (entry_pick lex k w listed (subst (λ z. PicksFit other (places z)) (sym same) fit)))
+      let same : annotation_of lex.schemata ≡ annotation_at g (site.Entry e n) = sym (ap entry_annotation listed) in (
+        subst (λ z. PicksFit picks (places z)) same fits,
+        λ other fit. (kept_is_standing g s (fillable g loaded) (APick (site.Entry e n) other)).0
+            (entry_pick lex k w listed (subst (λ z. PicksFit other (places z)) (sym same) fit)),
+      )
 
   pub picks_stand : (at : Site) (picks : List ℕ) → Stands g s (APick at picks) → PicksStand (APick at picks)
   picks_stand at picks st = kept_picks (APick at picks) ((kept_is_standing g s (fillable g loaded) (APick at picks)).1 st)
 
   module _ (cs : List PlacedChoice) (a : Assignment) (choices : AreChoices g s cs) (edges : List Edge) (forks : List Fork) (chart : IsChart g s edges forks)
-           (words : List (Edge × List ℕ)) (are : AreWords g s edges words) where
+      (words : List (Edge × List ℕ)) (are : AreWords g s edges words) where
     abbrev pub sel : Selection
     sel = selection g s cs forks words a
 
@@ -222,21 +227,21 @@ module _ (g : Grammar) (s : List TokenForms) (loaded : Loaded g) where
         let l = chart_has_all_nexts g s edges forks chart p in
         let some = some_length (nexts_at forks p) ((l.exact n).1 st) in
         get_nth (nexts_at forks p) (alternative_at g s cs a (NextAt p)) next.End
-          (within g s cs a (NextAt p) (length (nexts_at forks p)) choices (nexts_at forks p, l, refl) some)
+        (within g s cs a (NextAt p) (length (nexts_at forks p)) choices (nexts_at forks p, l, refl) some)
 
     pub entry_there : (e : Edge) (k : ℕ) → Stands g s (AWord e k) → slice_get (entries_at words e) (alternative_at g s cs a (EntryAt e)) ≡ Some (sel.entry_of e)
     entry_there e k st =
         let l = all_entries edges forks words chart are e in
         let some = some_length (entries_at words e) ((l.exact k).1 st) in
         get_nth (entries_at words e) (alternative_at g s cs a (EntryAt e)) 0
-          (within g s cs a (EntryAt e) (length (entries_at words e)) choices (entries_at words e, l, refl) some)
+        (within g s cs a (EntryAt e) (length (entries_at words e)) choices (entries_at words e, l, refl) some)
 
     pub picks_there : (at : Site) (picks : List ℕ) → Stands g s (APick at picks) → Stands g s (APick at (picks_at g s cs a at))
     picks_there at picks st =
         let p = picks_stand at picks st in
         p.1 (picks_at g s cs a at) (picks_within (λ k. alternative_at g s cs a (BranchAt at k)) 0 (places (annotation_at g at))
-          (λ j n e. (let P : ℕ → Type 0 = λ z. alternative_at g s cs a (BranchAt at z) < n in
-            subst P (from_zero j) (within g s cs a (BranchAt at j) n choices ((picks, st), e) (fits_some picks (places (annotation_at g at)) p.0 j n e)))))
+        (λ j n e. (let P : ℕ → Type 0 = λ z. alternative_at g s cs a (BranchAt at z) < n in
+        subst P (from_zero j) (within g s cs a (BranchAt at j) n choices ((picks, st), e) (fits_some picks (places (annotation_at g at)) p.0 j n e)))))
 
     pub is_selection : IsSelection g s sel
     is_selection = record {
@@ -275,10 +280,10 @@ module _ (g : Grammar) (s : List TokenForms) (loaded : Loaded g) where
 pub one_is_picked_by : OneIsPickedBy
 one_is_picked_by g s cs a loaded choices edges forks chart words are d d' h h' =
     one_is_picked g s (sel g s loaded cs a choices edges forks chart words are) d d' (apart g loaded)
-      (picked_selected g s loaded cs a choices edges forks chart words are d h) (picked_selected g s loaded cs a choices edges forks chart words are d' h')
+    (picked_selected g s loaded cs a choices edges forks chart words are d h) (picked_selected g s loaded cs a choices edges forks chart words are d' h')
 
 pub some_is_picked_by : SomeIsPickedBy
 some_is_picked_by g s cs a loaded choices edges forks chart words are d whole =
     let r = some_is_picked g s (sel g s loaded cs a choices edges forks chart words are) loaded.grounded (fillable g loaded)
-      (is_selection g s loaded cs a choices edges forks chart words are) d whole in
+    (is_selection g s loaded cs a choices edges forks chart words are) d whole in
     (r.0, selected_picked g s loaded cs a choices edges forks chart words are r.0 r.1)

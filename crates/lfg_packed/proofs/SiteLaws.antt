@@ -89,10 +89,13 @@ module _ (g : Grammar) (s : List TokenForms) (ground : IsGrounded g) where
   IsOwn rule e q at (site.Entry m k) = ⊥
 
   step_back : (rule : Rule) (e : Edge) (q p at : ℕ) (x : Site) → EmptyStep rule p q → IsOwn rule e p at x → IsOwn rule e q at x
-  step_back rule e q p at (site.Item m o a t) step own = (own.0, elim own.1 [
-    | inl far ↦ inl far
-    | inr near ↦ inr (near.0, elim near.1 [ inl item ↦ inl item | inr chain ↦ inr (links step chain) ])
-  ])
+  step_back rule e q p at (site.Item m o a t) step own = (
+    own.0,
+    elim own.1 [
+      | inl far ↦ inl far
+      | inr near ↦ inr (near.0, elim near.1 [ inl item ↦ inl item | inr chain ↦ inr (links step chain) ])
+    ],
+  )
   step_back rule e q p at (site.Entry m k) step own = absurd own
 
   further : (rule : Rule) (e : Edge) (q p at to : ℕ) (x : Site) → at < to → IsOwn rule e p to x → IsOwn rule e q at x
@@ -168,11 +171,11 @@ module _ (g : Grammar) (s : List TokenForms) (ground : IsGrounded g) where
         let P : List Site → Type 0 = λ zs. Once zs in
         let flat = flat_append spot_sites (spots_of below at) (parts_spots e occ rest to) in
         let joined : Once (sites_in (spots_of below at) ++ sites_in (parts_spots e occ rest to)) =
-          Once-append (sites_in (spots_of below at)) (sites_in (parts_spots e occ rest to)) front back
-          (λ x i j. elim (part_site rest e occ to x j) [
-            | inl own ↦ away (In-append_left (parts_edges rest to) (let E : Edge → Type 0 = λ z. In z (edges below at) in subst E own (tree_site below at x i)))
-            | inr m ↦ both.apart (edge_at x) (tree_site below at x i) m
-          ]) in
+        Once-append (sites_in (spots_of below at)) (sites_in (parts_spots e occ rest to)) front back
+        (λ x i j. elim (part_site rest e occ to x j) [
+          | inl own ↦ away (In-append_left (parts_edges rest to) (let E : Edge → Type 0 = λ z. In z (edges below at) in subst E own (tree_site below at x i)))
+          | inr m ↦ both.apart (edge_at x) (tree_site below at x i) m
+        ]) in
         let Q : List Site → Type 0 = λ zs. In (site.Item e occ at to) zs in
         more (λ i. elim (In-append_cases (sites_in (spots_of below at)) (sites_in (parts_spots e occ rest to)) (subst Q flat i)) [
           | inl l ↦ away (In-append_left (parts_edges rest to) (tree_site below at (site.Item e occ at to) l))
@@ -201,7 +204,7 @@ pub literals_by_picks : LiteralsByPicks
 literals_by_picks g s cs a d loaded picked sites once same =
     let whole = picked.whole in
     let is : literals g d 0 ≡ flat_map (λ at. site_literals g at (picks_at g s cs a at)) (sites_in (spots_of d 0)) =
-      literals_are_of_spots g s d _ whole.derives ∙ by_sites g s cs a (spots_of d 0) picked.takes in
+    literals_are_of_spots g s d _ whole.derives ∙ by_sites g s cs a (spots_of d 0) picked.takes in
     let f : Site → List Literal = λ at. site_literals g at (picks_at g s cs a at) in
     let P : List Literal → Type 0 = λ ls. IsPermutation (flat_map f sites) ls in
     subst P (sym is) (same_lists f sites (sites_in (spots_of d 0)) once (no_site_twice g s d _ loaded whole.derives) (λ z i. (same z).0 i) (λ z i. (same z).1 i))

@@ -47,8 +47,8 @@ module _ (g : Grammar) (s : List TokenForms) where
         let c : category_at g e occ ≡ None = at_edge g e rule occ is ∙ looked_up rule occ None picks h.0 in
         let items : rule.items ≡ items_of (rule_of g e.cat) = sym (ap items_of is) in
         let own : resolved (record { up = e; down = e; site = site.Item e occ at at }) (item_annotation (item_at rule.items occ)) picks 0
-            ≡ resolved (record { up = e; down = below_of e at at (category_at g e occ); site = site.Item e occ at at }) (item_annotation (item_at (items_of (rule_of g e.cat)) occ)) picks 0 =
-          (λ i. resolved (record { up = e; down = below_of e at at (sym c i); site = site.Item e occ at at }) (item_annotation (item_at (items i) occ)) picks 0) in
+        ≡ resolved (record { up = e; down = below_of e at at (category_at g e occ); site = site.Item e occ at at }) (item_annotation (item_at (items_of (rule_of g e.cat)) occ)) picks 0 =
+        (λ i. resolved (record { up = e; down = below_of e at at (sym c i); site = site.Item e occ at at }) (item_annotation (item_at (items i) occ)) picks 0) in
         let tail = part_literals rest e rule occ at is h.1 in
         λ i. own i ++ tail i
     part_literals (daughter occ picks below rest) e rule q at is h =
@@ -58,13 +58,13 @@ module _ (g : Grammar) (s : List TokenForms) where
         let m : edge_of below at ≡ edge h.0 at h.1 = tree_edge g s below _ h.3 in
         let down : edge_of below at ≡ below_of e at (at + width below) (category_at g e occ) = m ∙ (λ i. edge h.0 at (sym w i)) ∙ (λ i. below_of e at (at + width below) (sym c i)) in
         let own : resolved (record { up = e; down = edge_of below at; site = site.Item e occ at (at + width below) }) (item_annotation (item_at rule.items occ)) picks 0
-            ≡ resolved (record { up = e; down = below_of e at (at + width below) (category_at g e occ); site = site.Item e occ at (at + width below) }) (item_annotation (item_at (items_of (rule_of g e.cat)) occ)) picks 0 =
-          (λ i. resolved (record { up = e; down = down i; site = site.Item e occ at (at + width below) }) (item_annotation (item_at (items i) occ)) picks 0) in
+        ≡ resolved (record { up = e; down = below_of e at (at + width below) (category_at g e occ); site = site.Item e occ at (at + width below) }) (item_annotation (item_at (items_of (rule_of g e.cat)) occ)) picks 0 =
+        (λ i. resolved (record { up = e; down = down i; site = site.Item e occ at (at + width below) }) (item_annotation (item_at (items i) occ)) picks 0) in
         let under_it = tree_literals below _ h.3 in
         let C : ℕ → Type 0 = λ n. Covers g s rule rest n e.to in
         let tail = part_literals rest e rule occ (at + width below) is (subst C (sym w) h.4) in
         let both : literals g below at ++ parts_literals g rule.items e rest (at + width below) ≡ flat_map (spot_literals g) (spots_of below at ++ parts_spots e occ rest (at + width below)) =
-          (λ i. under_it i ++ tail i) ∙ sym (flat_append (spot_literals g) (spots_of below at) (parts_spots e occ rest (at + width below))) in
+        (λ i. under_it i ++ tail i) ∙ sym (flat_append (spot_literals g) (spots_of below at) (parts_spots e occ rest (at + width below))) in
         λ i. own i ++ both i
 
   mutual
@@ -94,12 +94,12 @@ module _ (g : Grammar) (s : List TokenForms) where
         let m : edge_of below at ≡ edge h.0 at h.1 = tree_edge g s below _ h.3 in
         let down : edge_of below at ≡ edge h.0 at (at + width below) = m ∙ (λ i. edge h.0 at (sym w i)) in
         let own : under (edge_of below at) e ∷ [] ≡ under_facts e at (at + width below) (category_at g e occ) =
-          (λ i. under (down i) e ∷ []) ∙ (λ i. under_facts e at (at + width below) (sym c i)) in
+        (λ i. under (down i) e ∷ []) ∙ (λ i. under_facts e at (at + width below) (sym c i)) in
         let under_it = tree_facts_of below _ h.3 in
         let C : ℕ → Type 0 = λ n. Covers g s rule rest n e.to in
         let tail = part_facts rest e rule occ (at + width below) is (subst C (sym w) h.4) in
         let both : tree_facts s below at ++ parts_facts s e rest (at + width below) ≡ flat_map (spot_facts g s) (spots_of below at ++ parts_spots e occ rest (at + width below)) =
-          (λ i. under_it i ++ tail i) ∙ sym (flat_append (spot_facts g s) (spots_of below at) (parts_spots e occ rest (at + width below))) in
+        (λ i. under_it i ++ tail i) ∙ sym (flat_append (spot_facts g s) (spots_of below at) (parts_spots e occ rest (at + width below))) in
         λ i. own i ++ both i
 
 pub literals_are_of_spots : LiteralsAreOfSpots

@@ -28,7 +28,6 @@ other_context f g y es other = ap (λ b. cond b (Some y) (context_of es g)) (apa
 module _ (f : Fact) (front back : Entries)
     (before : (e : Fact × Set) → In e front → fact_cmp f e.0 ≡ Greater)
     (behind : (e : Fact × Set) → In e back → fact_cmp f e.0 ≡ Less) where
-
   abbrev without_it : Entries
   without_it = front ++ back
 
@@ -134,7 +133,7 @@ module _ (f : Fact) (front back : Entries)
   pub more_store : (x : Set) → HasMember x → length without_it < 4294967295 → IsStore without_it → IsStore (with_set x)
   more_store x some room s = record {
     ascends = subst (IsStrictlySortedBy fact_cmp) (sym (map-append (λ e. e.0) front ((f, x) ∷ back)))
-      (ascends_with fact_cmp (facts_of front) (facts_of back) f (subst (IsStrictlySortedBy fact_cmp) (map-append (λ e. e.0) front back) s.ascends) less more);
+        (ascends_with fact_cmp (facts_of front) (facts_of back) f (subst (IsStrictlySortedBy fact_cmp) (map-append (λ e. e.0) front back) s.ascends) less more);
     stands = λ e i. by_case e (In-append_cases front ((f, x) ∷ back) i);
     room = omega (arith, room, length-append front back, length-append front ((f, x) ∷ back));
   }
@@ -156,7 +155,7 @@ module _ (f : Fact) (front back : Entries)
   pub less_store : (y : Set) → IsStore (with_set y) → IsStore without_it
   less_store y s = record {
     ascends = subst (IsStrictlySortedBy fact_cmp) (sym (map-append (λ e. e.0) front back))
-      (ascends_without fact_cmp (facts_of front) (facts_of back) f (subst (IsStrictlySortedBy fact_cmp) (map-append (λ e. e.0) front ((f, y) ∷ back)) s.ascends));
+        (ascends_without fact_cmp (facts_of front) (facts_of back) f (subst (IsStrictlySortedBy fact_cmp) (map-append (λ e. e.0) front ((f, y) ∷ back)) s.ascends));
     stands = λ e i. by_case e (In-append_cases front back i);
     room = omega (arith, s.room, length-append front back, length-append front ((f, y) ∷ back));
   }

@@ -52,13 +52,13 @@ In-with f (h ∷ gs) g = by_order (fact_cmp f h) refl (In-with f gs g)
     front : WithGoal f g (h ∷ gs) (f ∷ h ∷ gs)
     front = (
       (λ i. elim (In-cons_cases i) [ inl e ↦ inr e | inr j ↦ inl j ]),
-      λ s. elim s [ inl i ↦ later i | inr e ↦ (let P : Fact → Type 0 = λ v. In v (f ∷ h ∷ gs) in subst P (sym e) here) ]
+      λ s. elim s [ inl i ↦ later i | inr e ↦ (let P : Fact → Type 0 = λ v. In v (f ∷ h ∷ gs) in subst P (sym e) here) ],
     )
 
     same : f ≡ h → WithGoal f g (h ∷ gs) (h ∷ gs)
     same e = (
       (λ i. inl i),
-      λ s. elim s [ inl i ↦ i | inr d ↦ (let P : Fact → Type 0 = λ v. In v (h ∷ gs) in subst P (sym (d ∙ e)) here) ]
+      λ s. elim s [ inl i ↦ i | inr d ↦ (let P : Fact → Type 0 = λ v. In v (h ∷ gs) in subst P (sym (d ∙ e)) here) ],
     )
 
     behind : In g (with_fact f gs) ↔ (In g gs ⊎ (g ≡ f)) → WithGoal f g (h ∷ gs) (h ∷ with_fact f gs)
@@ -73,7 +73,7 @@ In-with f (h ∷ gs) g = by_order (fact_cmp f h) refl (In-with f gs g)
           | inr j ↦ later (ih.1 (inl j))
         ]
         | inr e ↦ later (ih.1 (inr e))
-      ]
+      ],
     )
 
     by_order : (o : Ordering) → fact_cmp f h ≡ o → In g (with_fact f gs) ↔ (In g gs ⊎ (g ≡ f)) → WithGoal f g (h ∷ gs) (match_ordering o (f ∷ h ∷ gs) (h ∷ gs) (h ∷ with_fact f gs))
@@ -99,12 +99,12 @@ one_more es e now new h edit = record { each = λ a g. by_member a g (member e.1
           λ i. rw p (with.1 (elim (In-append_cases (facts_at es a) (e.0 ∷ []) (rw q at i)) [
             | inl j ↦ inl (old.1 j)
             | inr j ↦ elim (In-cons_cases j) [ inl d ↦ inr d | inr k ↦ In-nil k ]
-          ]))
+          ])),
         )
     by_member a g false p q =
         let old = h.each a g in (
           (λ i. rw q (In-append_left [] (old.0 (rw p at i)))),
-          λ i. rw p (old.1 (elim (In-append_cases (facts_at es a) [] (rw q at i)) [ inl j ↦ j | inr j ↦ In-nil j ]))
+          λ i. rw p (old.1 (elim (In-append_cases (facts_at es a) [] (rw q at i)) [ inl j ↦ j | inr j ↦ In-nil j ])),
         )
 
 pub more_facts : (es : Entries) (i : ℕ) (e : Fact × Set) (now new : Entries) → i < length es → e ≡ get_or es i e → HasFactsOf (take i es) now → IsEdited Add now e.0 e.1 new
@@ -134,6 +134,6 @@ lists_facts es fs new p s h a = record {
   ascends = facts_ascend new a s.ascends;
   exact = λ g. (
     (λ i. permuted_facts es fs a g (λ e j. from_permuted es fs e p j) ((h.each a g).0 i)),
-    λ i. (h.each a g).1 (permuted_facts fs es a g (λ e j. from_permuted fs es e (IsPermutation-sym es fs p) j) i)
+    λ i. (h.each a g).1 (permuted_facts fs es a g (λ e j. from_permuted fs es e (IsPermutation-sym es fs p) j) i),
   );
 }

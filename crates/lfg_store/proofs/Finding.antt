@@ -19,7 +19,7 @@ rises es f asc = searchable_from_sorted fact_cmp_total (λ e. e.0) es f (λ k d 
     let here : get_or (facts_of es) k d.0 ≡ (get_or es k d).0 = get_or-map (λ (e : Fact × Set). e.0) es k d d.0 (omega arith) in
     let next : get_or (facts_of es) (k + 1) d.0 ≡ (get_or es (k + 1) d).0 = get_or-map (λ (e : Fact × Set). e.0) es (k + 1) d d.0 (omega arith) in
     let up : fact_cmp (get_or (facts_of es) k d.0) (get_or (facts_of es) (k + 1) d.0) ≡ Less =
-      Less-from_sorted fact_cmp (facts_of es) k (k + 1) d.0 asc (omega arith) (omega (arith, length-map es (λ e. e.0))) in
+    Less-from_sorted fact_cmp (facts_of es) k (k + 1) d.0 asc (omega arith) (omega (arith, length-map es (λ e. e.0))) in
     let less : fact_cmp (get_or es k d).0 (get_or es (k + 1) d).0 ≡ Less = ap (λ v. fact_cmp v (get_or es (k + 1) d).0) (sym here) ∙ ap (λ v. fact_cmp (get_or (facts_of es) k d.0) v) (sym next) ∙ up in
     ap is_lt (fact_cmp_total.antisymm (get_or es (k + 1) d).0 (get_or es k d).0 ∙ ap ordering_reverse less))
 

@@ -13,7 +13,7 @@ module _ {X : Type 0} where
   held-append (e ∷ xs) ys a = by_member (member e.1 a) (held-append xs ys a)
     where
       by_member : (b : Bool) → held (xs ++ ys) a ≡ held xs a ++ held ys a
-        → cond b (e.0 ∷ held (xs ++ ys) a) (held (xs ++ ys) a) ≡ cond b (e.0 ∷ held xs a) (held xs a) ++ held ys a
+          → cond b (e.0 ∷ held (xs ++ ys) a) (held (xs ++ ys) a) ≡ cond b (e.0 ∷ held xs a) (held xs a) ++ held ys a
       by_member true ih = ap (λ v. e.0 ∷ v) ih
       by_member false ih = ih
 

@@ -22,10 +22,7 @@ pub(crate) fn copied_entry(entry: &(Fact, Ctx)) -> Result<(Fact, Ctx), AllocErro
 }
 
 /// A copy of the entries.
-pub(crate) fn copied(
-    alloc: Global,
-    entries: &[(Fact, Ctx)],
-) -> Result<Vec<(Fact, Ctx)>, AllocError>
+pub(crate) fn copied(alloc: Global, entries: &[(Fact, Ctx)]) -> Result<Vec<(Fact, Ctx)>, AllocError>
     ensures { IfOk result (λ copy. copy.items ≡ entries.now) }
 {
     let mut copy = Vec::new(alloc);

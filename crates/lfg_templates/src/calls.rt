@@ -186,7 +186,10 @@ fn with_undefined<'a>(
 }
 
 /// The first call, in written order, that names no template.
-pub(crate) fn first_undefined<'a>(templates: &Templates<'_>, calls: &[Called<'a>]) -> Option<Spot<'a>>
+pub(crate) fn first_undefined<'a>(
+    templates: &Templates<'_>,
+    calls: &[Called<'a>],
+) -> Option<Spot<'a>>
     ensures { Finds call_entry call_name (IsUndefined (map template_form templates.now)) (map called_of calls.now) (option_map spot_of result) }
 {
     let mut first = None;

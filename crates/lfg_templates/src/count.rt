@@ -23,7 +23,11 @@ pub(crate) fn capped_sum(a: u32, b: u32) -> u32
 /// How many schemata these become once each call is replaced, or one more than the limit. The calls
 /// are followed at most `depth` deep, and no further than to the limit.
 #[cycle(count)]
-pub(crate) fn count_all(templates: &Templates<'_>, depth: usize, schemata: &[Schema<PathExpr>]) -> u32
+pub(crate) fn count_all(
+    templates: &Templates<'_>,
+    depth: usize,
+    schemata: &[Schema<PathExpr>],
+) -> u32
     ensures { result ≡ capped (all_count (call_count (map template_form templates.now) depth) (draft_annotation_of schemata.now)) }
 {
     let mut sum = 0;

@@ -150,10 +150,7 @@ fn with_head<'a>(
 
 /// The first head of a section, in written order, that is repeated, or that names a parameter
 /// twice.
-fn first_repeated<'a>(
-    alloc: Global,
-    heads: &[Head<'a>],
-) -> Result<Option<Spot<'a>>, AllocError>
+fn first_repeated<'a>(alloc: Global, heads: &[Head<'a>]) -> Result<Option<Spot<'a>>, AllocError>
     ensures { IfOk result (λ r. Finds head_entry head_name Repeated (headed (map head_of heads.now)) (option_map spot_of r)) }
 {
     let mut headings = IndexMap::new(alloc);

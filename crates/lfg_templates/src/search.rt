@@ -37,7 +37,11 @@ fn mark_row(
 }
 
 /// Whether the place leads to itself, at once or through others.
-pub(crate) fn leads_back(alloc: Global, graph: &[Vec<usize>], start: usize) -> Result<bool, AllocError>
+pub(crate) fn leads_back(
+    alloc: Global,
+    graph: &[Vec<usize>],
+    start: usize,
+) -> Result<bool, AllocError>
     requires { start < length graph.now }
     ensures yes { IfOk result (λ b. IsTrue b → Walks (map (λ r. r.items) graph.now) start start) }
     ensures no { IfOk result (λ b. b ≡ false → ¬ Walks (map (λ r. r.items) graph.now) start start) }

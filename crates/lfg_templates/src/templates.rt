@@ -65,10 +65,7 @@ fn places_of(alloc: Global, templates: &[Template]) -> Result<IndexMap<Name, usi
 
 impl<'a> Templates<'a> {
     /// These templates.
-    pub(crate) fn new(
-        alloc: Global,
-        list: &'a [Template],
-    ) -> Result<Templates<'a>, AllocError>
+    pub(crate) fn new(alloc: Global, list: &'a [Template]) -> Result<Templates<'a>, AllocError>
         ensures { IfOk result (λ t. t ≡ list.now) }
     {
         let places = places_of(alloc, list)?;

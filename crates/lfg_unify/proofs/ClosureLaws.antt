@@ -72,32 +72,32 @@ module _ (literals : List (Literal × Set)) (ns : List Node) (all : Lists node_c
 pub given_made : {k : Known} (ns : List Node) (literals : List (Literal × Set)) → AreMade k (λ l. l.1) literals → AreMade k (λ e. e.1) (flat_map (given_in ns) literals)
 given_made {k} ns literals m = record {
   each = λ e h.
-    let l = In_from_flat_map (given_in ns) literals h in
-    let p = In_from_map (λ q. ((place_in ns q.0, place_in ns q.1), l.0.1)) (given_of l.0.0) l.2 in
-    subst (λ (z : Set). IsMade k z) (ap (λ w. w.1) p.2) (m.each l.0 l.1);
+      let l = In_from_flat_map (given_in ns) literals h in
+      let p = In_from_map (λ q. ((place_in ns q.0, place_in ns q.1), l.0.1)) (given_of l.0.0) l.2 in
+      subst (λ (z : Set). IsMade k z) (ap (λ w. w.1) p.2) (m.each l.0 l.1);
 }
 
 pub values_made : {k : Known} (literals : List (Literal × Set)) → AreMade k (λ l. l.1) literals → AreMade k (λ v. v.2) (flat_map values_in literals)
 values_made {k} literals m = record {
   each = λ e h.
-    let l = In_from_flat_map values_in literals h in
-    let p = In_from_map (λ w. (w.0, w.1, l.0.1)) (values_of l.0.0) l.2 in
-    subst (λ (z : Set). IsMade k z) (ap (λ w. w.2) p.2) (m.each l.0 l.1);
+      let l = In_from_flat_map values_in literals h in
+      let p = In_from_map (λ w. (w.0, w.1, l.0.1)) (values_of l.0.0) l.2 in
+      subst (λ (z : Set). IsMade k z) (ap (λ w. w.2) p.2) (m.each l.0 l.1);
 }
 
 pub members_made : {k : Known} (literals : List (Literal × Set)) → AreMade k (λ l. l.1) literals → AreMade k (λ v. v.2) (flat_map members_in literals)
 members_made {k} literals m = record {
   each = λ e h.
-    let l = In_from_flat_map members_in literals h in
-    let p = In_from_map (λ w. (w.0, w.1, l.0.1)) (members_of l.0.0) l.2 in
-    subst (λ (z : Set). IsMade k z) (ap (λ w. w.2) p.2) (m.each l.0 l.1);
+      let l = In_from_flat_map members_in literals h in
+      let p = In_from_map (λ w. (w.0, w.1, l.0.1)) (members_of l.0.0) l.2 in
+      subst (λ (z : Set). IsMade k z) (ap (λ w. w.2) p.2) (m.each l.0 l.1);
 }
 
 pub map_made : {X Y : Type 0} {k : Known} (f : X → Y) (x_set : X → Set) (y_set : Y → Set) (xs : List X) → ((x : X) → y_set (f x) ≡ x_set x) → AreMade k x_set xs → AreMade k y_set (map f xs)
 map_made {X} {Y} {k} f x_set y_set xs same m = record {
   each = λ y h.
-    let p = In_from_map f xs h in
-    subst (λ (z : Set). IsMade k z) (sym (same p.0) ∙ ap y_set p.2) (m.each p.0 p.1);
+      let p = In_from_map f xs h in
+      subst (λ (z : Set). IsMade k z) (sym (same p.0) ∙ ap y_set p.2) (m.each p.0 p.1);
 }
 
 pub row_made : {k : Known} (row : Row) → IsRow k row → AreMade k (λ e. e.1) row
@@ -116,13 +116,13 @@ is_system {k} ns literals list s c asc row = record {
   there = λ e i. stands_below (length ns) 0 s.there.items e.0 e.1 asc i;
   given = λ e i. given_within literals ns c.nodes e (subst (λ (xs : List ((ℕ × ℕ) × Set)). In e xs) c.given i);
   arcs = λ e i.
-    let p = In_from_map (arc_in ns) list (subst (λ (xs : List ((ℕ × Name × ℕ) × Set)). In e xs) c.numbered i) in
-    let q = c.arcs.sound p.0.0 p.0.1 p.0.2 p.0.3 p.1 in
-    let w = (row.each (q.1.0, p.0.3) q.1.1).some in
-    let b = (literals_between (holding literals w.0)).arc_ends p.0.0 p.0.1 p.0.2 (arc_forth ns literals list s c w.0 p.0.0 p.0.1 p.0.2 p.0.3 p.1 w.1) in
-    let f = ap (λ r. r.0.0) p.2 in
-    let g = ap (λ r. r.0.2) p.2 in
-    (subst (λ (n : ℕ). n < length ns) f (place_In ns p.0.0 (listed ns literals list s c w.0 p.0.0 b.0)), subst (λ (n : ℕ). n < length ns) g (place_In ns p.0.2 (listed ns literals list s c w.0 p.0.2 b.1)));
+      let p = In_from_map (arc_in ns) list (subst (λ (xs : List ((ℕ × Name × ℕ) × Set)). In e xs) c.numbered i) in
+      let q = c.arcs.sound p.0.0 p.0.1 p.0.2 p.0.3 p.1 in
+      let w = (row.each (q.1.0, p.0.3) q.1.1).some in
+      let b = (literals_between (holding literals w.0)).arc_ends p.0.0 p.0.1 p.0.2 (arc_forth ns literals list s c w.0 p.0.0 p.0.1 p.0.2 p.0.3 p.1 w.1) in
+      let f = ap (λ r. r.0.0) p.2 in
+      let g = ap (λ r. r.0.2) p.2 in
+      (subst (λ (n : ℕ). n < length ns) f (place_In ns p.0.0 (listed ns literals list s c w.0 p.0.0 b.0)), subst (λ (n : ℕ). n < length ns) g (place_In ns p.0.2 (listed ns literals list s c w.0 p.0.2 b.1)));
 }
 
 -- ---- the closure
@@ -179,7 +179,7 @@ module _ (ns : List Node) (literals : List (Literal × Set)) (list : List (Node 
       by_kind p.0 p.1 (subst (λ (v : Placed). Clashes rows all_placed sources sets v a) (sym p.2) h.holds).meets
     where
       by_kind : (v : Node × Constant × Set) → In v (flat_map values_in literals)
-        → InSome all_placed (Differs rows (placed_in ns v)) a ⊎ (InSome sources (IsBeside rows (placed_in ns v)) a ⊎ InSome sets (IsBeside rows (placed_in ns v)) a) → Clash (solution ls)
+          → InSome all_placed (Differs rows (placed_in ns v)) a ⊎ (InSome sources (IsBeside rows (placed_in ns v)) a ⊎ InSome sets (IsBeside rows (placed_in ns v)) a) → Clash (solution ls)
       by_kind v i (inl w) =
           let p = In_from_map (placed_in ns) (flat_map values_in literals) w.listed in
           let d = subst (λ (u : Placed). Differs rows (placed_in ns v) u a) (sym p.2) w.holds in
@@ -216,11 +216,13 @@ module _ (ns : List Node) (literals : List (Literal × Set)) (list : List (Node 
       record {
         item = v.0;
         listed = v.1;
-        holds = record { meets = inl (record {
-          item = w.0;
-          listed = w.1;
-          holds = record { apart = λ q. apart (sym v.4 ∙ q ∙ w.4); first_holds = v.2; second_holds = w.2; same = pair_has _ n m v.0.0.0 w.0.0.0 e f v.3 w.3 };
-        }) };
+        holds = record {
+          meets = inl (record {
+            item = w.0;
+            listed = w.1;
+            holds = record { apart = λ q. apart (sym v.4 ∙ q ∙ w.4); first_holds = v.2; second_holds = w.2; same = pair_has _ n m v.0.0.0 w.0.0.0 e f v.3 w.3 };
+          });
+        };
       }
   clash_back (beside_arc {c = k} (value {n} e i) (arc {n = m} {u} f j g)) =
       let v = some_placed n k i in
@@ -228,11 +230,13 @@ module _ (ns : List Node) (literals : List (Literal × Set)) (list : List (Node 
       record {
         item = v.0;
         listed = v.1;
-        holds = record { meets = inr (inl (record {
-          item = (place_in ns m, w.0);
-          listed = In-map (source_in ns) w.1;
-          holds = record { first_holds = v.2; second_holds = w.2; same = pair_has _ n m v.0.0.0 (place_in ns m) e f v.3 refl };
-        })) };
+        holds = record {
+          meets = inr (inl (record {
+            item = (place_in ns m, w.0);
+            listed = In-map (source_in ns) w.1;
+            holds = record { first_holds = v.2; second_holds = w.2; same = pair_has _ n m v.0.0.0 (place_in ns m) e f v.3 refl };
+          }));
+        };
       }
   clash_back (beside_member {c = k} (value {n} e i) (member_of {n = m} {k = t} f j g)) =
       let v = some_placed n k i in
@@ -240,11 +244,13 @@ module _ (ns : List Node) (literals : List (Literal × Set)) (list : List (Node 
       record {
         item = v.0;
         listed = v.1;
-        holds = record { meets = inr (inr (record {
-          item = (place_in ns m, w.0);
-          listed = In-map (set_in ns) w.1;
-          holds = record { first_holds = v.2; second_holds = w.2; same = pair_has _ n m v.0.0.0 (place_in ns m) e f v.3 refl };
-        })) };
+        holds = record {
+          meets = inr (inr (record {
+            item = (place_in ns m, w.0);
+            listed = In-map (set_in ns) w.1;
+            holds = record { first_holds = v.2; second_holds = w.2; same = pair_has _ n m v.0.0.0 (place_in ns m) e f v.3 refl };
+          }));
+        };
       }
 
   -- ---- the relations
@@ -268,9 +274,13 @@ module _ (ns : List Node) (literals : List (Literal × Set)) (list : List (Node 
     arc_at_back x n t (arc {n = m} {u} e i g) =
         let p = arc_back ns literals list s c a m n u i in
         record {
-          from = m; to = u; ctx = p.0;
+          from = m;
+          to = u;
+          ctx = p.0;
           listed = subst (λ (xs : List (Node × Name × Node × Set)). In (m, n, u, p.0) xs) (sym f.arcs) p.1;
-          holds = p.2; start = at_back x m e; end = at_back u t g;
+          holds = p.2;
+          start = at_back x m e;
+          end = at_back u t g;
         }
 
     value_at_forth : (x : Node) (v : Constant) → HasValueAt k a x v → HasValue ls x v
@@ -292,9 +302,13 @@ module _ (ns : List Node) (literals : List (Literal × Set)) (list : List (Node 
     member_at_back x m (member_of {n} {k = t} e i g) =
         let p = member_back t n i in
         record {
-          item = t; set = n; ctx = p.0;
+          item = t;
+          set = n;
+          ctx = p.0;
           listed = subst (λ (xs : List (Node × Node × Set)). In (t, n, p.0) xs) (sym f.members) p.1;
-          holds = p.2; same = at_back x n e; is = at_back t m g;
+          holds = p.2;
+          same = at_back x n e;
+          is = at_back t m g;
         }
 
     pub alike : AreAlike (closure_at k a) (solution ls)
@@ -343,8 +357,8 @@ closes known ns literals list s rows k c solves asc count made arcs_of made_ls f
   nodes = subst (λ (ms : List Node). Lists node_cmp (λ n. In n (nodes (literals_of literals))) ms) (sym f.nodes) (all_listed literals ns c.nodes);
   none = none;
   some = λ row r i j.
-    let h : In row rows = subst (λ (rs : List Row). In row rs) f.rows_are i in
-    ((row_in rows (λ row. IsRow known row) made.each row h).each r j).some;
+      let h : In row rows = subst (λ (rs : List Row). In row rs) f.rows_are i in
+      ((row_in rows (λ row. IsRow known row) made.each row h).each r j).some;
   there = record {
     arc = λ a x n t z i m. there_arc ns literals list s c rows solves asc count a k f (none a) x n t z i m;
     value = λ a x v z i m. there_value ns literals list s c rows solves asc count a k f (none a) x v z i m;

@@ -23,5 +23,5 @@ pub tells_parts : (z : Set) (rows : List Row) (ns ms : List Node) (vs ws : List 
 tells_parts z rows ns ms vs ws xs ys ss ts e f g h t =
     subst (λ (us : List (Node × Node × Set)). Tells z (InSome (map (placed_in ms) ws) (Clashes rows (map (placed_in ms) ws) (map (source_in ms) ys) (map (set_in ms) us)))) h
     (subst (λ (us : List (Node × Name × Node × Set)). Tells z (InSome (map (placed_in ms) ws) (Clashes rows (map (placed_in ms) ws) (map (source_in ms) us) (map (set_in ms) ss)))) g
-      (subst (λ (us : List (Node × Constant × Set)). Tells z (InSome (map (placed_in ms) us) (Clashes rows (map (placed_in ms) us) (map (source_in ms) xs) (map (set_in ms) ss)))) f
-        (subst (λ (us : List Node). Tells z (InSome (map (placed_in us) vs) (Clashes rows (map (placed_in us) vs) (map (source_in us) xs) (map (set_in us) ss)))) e t)))
+    (subst (λ (us : List (Node × Constant × Set)). Tells z (InSome (map (placed_in ms) us) (Clashes rows (map (placed_in ms) us) (map (source_in ms) xs) (map (set_in ms) ss)))) f
+    (subst (λ (us : List Node). Tells z (InSome (map (placed_in us) vs) (Clashes rows (map (placed_in us) vs) (map (source_in us) xs) (map (set_in us) ss)))) e t)))

@@ -185,9 +185,12 @@ pub ascends_insert : (count from : ℕ) (row : Row) (j : ℕ) (w : Set) → from
 ascends_insert count from [] j w h l differs s = (h, l, tt)
 ascends_insert count from (r ∷ rs) j w h l differs s = elim (le_or_lt r.0 j) [
   | inl less ↦ let e = if_lt r.0 j (suc (count_before rs j)) 0 less in
-      subst (λ (n : ℕ). Ascends count from (insert (r ∷ rs) n (j, w))) (sym e)
-      (s.0, s.1, ascends_insert count (suc r.0) rs j w (omega arith) l
-        (λ d k. let g = subst (λ (n : ℕ). n < suc (length rs) → (get_or (r ∷ rs) n d).0 ≢ j) e (differs d) in g (omega arith)) s.2)
+      subst (λ (n : ℕ). Ascends count from (insert (r ∷ rs) n (j, w))) (sym e) (
+        s.0,
+        s.1,
+        ascends_insert count (suc r.0) rs j w (omega arith) l
+            (λ d k. let g = subst (λ (n : ℕ). n < suc (length rs) → (get_or (r ∷ rs) n d).0 ≢ j) e (differs d) in g (omega arith)) s.2,
+      )
   | inr more ↦ let e = if_ge r.0 j (suc (count_before rs j)) 0 more in
       let g : r.0 ≢ j = (let f = subst (λ (n : ℕ). n < suc (length rs) → (get_or (r ∷ rs) n r).0 ≢ j) e (differs r) in f (omega arith)) in
       subst (λ (n : ℕ). Ascends count from (insert (r ∷ rs) n (j, w))) (sym e) (h, l, (omega (arith, g), s.1, s.2))

@@ -85,11 +85,11 @@ nat_tells = record { itself = λ x. grind arith; told = λ x y e. grind arith }
 pub rounds_equal : (s : System) (places count : ℕ) (rows : List Row) → IsSystem places s → length s.there.items ≡ count → HasRounds s (count * count) rows → HasEqual s rows
 rounds_equal s places count rows sys len r = record {
   each = λ a i j e.
-    let m = length (holding s.there.items a) in
-    let k : RoundIn s a (m * m) i j = enough (λ x y. x == y) (eq_by_cmp name_cmp) nat_tells name_tells (holding s.there.items a) (holding s.given.items a) (holding s.arcs.items a) (sys.between a) e in
-    let l : m * m ≤ count * count = square_mono m count (omega (arith, length-holding s.there.items a, len)) in
-    let e : m * m + (count * count - m * m) ≡ count * count = omega (arith, l) in
-    r.each a i j (subst (λ (n : ℕ). RoundIn s a n i j) e (round_rises s a (m * m) (count * count - m * m) i j k));
+      let m = length (holding s.there.items a) in
+      let k : RoundIn s a (m * m) i j = enough (λ x y. x == y) (eq_by_cmp name_cmp) nat_tells name_tells (holding s.there.items a) (holding s.given.items a) (holding s.arcs.items a) (sys.between a) e in
+      let l : m * m ≤ count * count = square_mono m count (omega (arith, length-holding s.there.items a, len)) in
+      let e : m * m + (count * count - m * m) ≡ count * count = omega (arith, l) in
+      r.each a i j (subst (λ (n : ℕ). RoundIn s a n i j) e (round_rises s a (m * m) (count * count - m * m) i j k));
 }
 
 pub more_rounds : (s : System) (turn count : ℕ) (rows : List Row) → HasRounds s (turn * count + count) rows → HasRounds s ((turn + 1) * count) rows
@@ -136,22 +136,22 @@ pub pair_cases : (old new : List Row) (i j : ℕ) (z : Set) (a : Assignment) (x 
     → Has new a x y ↔ (Has old a x y ⊎ ((x ≡ i) × (y ≡ j) × (member z a ≡ true)))
 pair_cases old new i j z a x y others w = elim (nat_cases x i) [
   | inl e ↦ (
-      (λ h. elim ((w.each a y).0 (subst (λ (n : ℕ). Has new a n y) e h)) [
-        | inl s ↦ inl (subst (λ (n : ℕ). Has old a n y) (sym e) s)
-        | inr p ↦ inr (e, p.0, p.1)
-      ]),
-      (λ h. elim h [
-        | inl s ↦ subst (λ (n : ℕ). Has new a n y) (sym e) ((w.each a y).1 (inl (subst (λ (n : ℕ). Has old a n y) e s)))
-        | inr p ↦ subst (λ (n : ℕ). Has new a n y) (sym e) ((w.each a y).1 (inr (p.1, p.2)))
-      ]),
-    )
+    (λ h. elim ((w.each a y).0 (subst (λ (n : ℕ). Has new a n y) e h)) [
+      | inl s ↦ inl (subst (λ (n : ℕ). Has old a n y) (sym e) s)
+      | inr p ↦ inr (e, p.0, p.1)
+    ]),
+    (λ h. elim h [
+      | inl s ↦ subst (λ (n : ℕ). Has new a n y) (sym e) ((w.each a y).1 (inl (subst (λ (n : ℕ). Has old a n y) e s)))
+      | inr p ↦ subst (λ (n : ℕ). Has new a n y) (sym e) ((w.each a y).1 (inr (p.1, p.2)))
+    ]),
+  )
   | inr n ↦ (
-      (λ h. inl (subst (λ (r : Row). Stands r a y) (others x n) h)),
-      (λ h. elim h [
-        | inl s ↦ subst (λ (r : Row). Stands r a y) (sym (others x n)) s
-        | inr p ↦ absurd (n p.0)
-      ]),
-    )
+    (λ h. inl (subst (λ (r : Row). Stands r a y) (others x n) h)),
+    (λ h. elim h [
+      | inl s ↦ subst (λ (r : Row). Stands r a y) (sym (others x n)) s
+      | inr p ↦ absurd (n p.0)
+    ]),
+  )
 ]
 
 pub there_none : (rows : List Row) → AddsThere [] rows rows

@@ -113,7 +113,6 @@ steps_arcs_to (node.At e p) x a t h s =
     subst (λ (r : Node × Name × Node). In r (arcs_to (node.At e p))) (λ i. (g i, a, l i)) k
 steps_arcs_to n x a t h s = absurd (no_At t (ap path_of (In-one h)) s.path a (ap path_of s.end))
 
-
 -- the nodes that defining literals name, with all nodes on the way to them
 abbrev pub defined : List Literal → List Node
 defined ls = flat_map (found_in false) ls
@@ -169,4 +168,3 @@ member_named (literal.Mark m) k x h = In-nil h
 
 pub member_node : (ls : List Literal) (k x : Node) → In (k, x) (members ls) → In k (nodes ls) × In x (nodes ls)
 member_node ls k x h = let l = In_from_flat_map members_of ls h in let e = member_named l.0 k x l.2 in (named_node ls l.0 k l.1 e.0, named_node ls l.0 x l.1 e.1)
-

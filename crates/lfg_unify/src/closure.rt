@@ -30,7 +30,6 @@ pub struct Closure {
 
 impl Model for Closure {
     ghost use Rattle.lfg_unify.specs.Closures.{Closed, IsClosedForm};
-
     ghost use Rattle.lfg_terms.specs.contracts.node.Node as node;
     ghost use Rattle.std.specs.Coded.{codes};
 

@@ -165,10 +165,7 @@ fn push_nodes(alloc: Global, nodes: &mut Vec<Node>, literal: &Literal) -> Result
 }
 
 /// The nodes of the literals, in order, each once.
-pub(crate) fn all_nodes(
-    alloc: Global,
-    literals: &[(Literal, Ctx)],
-) -> Result<Vec<Node>, AllocError>
+pub(crate) fn all_nodes(alloc: Global, literals: &[(Literal, Ctx)]) -> Result<Vec<Node>, AllocError>
     ensures { IfOk result (λ all. Lists node_cmp (λ n. In n (flat_map (λ l. found_in true l.0) literals.now)) all.items) }
 {
     let mut nodes = Vec::new(alloc);

@@ -116,7 +116,11 @@ pub(crate) fn sweep_row(
 
 /// Pairs all that is paired through a place. Tells whether the table grew.
 #[tactic(auto, using(crate::proofs::RowLaws::rows))]
-pub(crate) fn join_all(alloc: Global, table: &mut Table, contexts: &mut Contexts) -> Result<bool, AllocError>
+pub(crate) fn join_all(
+    alloc: Global,
+    table: &mut Table,
+    contexts: &mut Contexts,
+) -> Result<bool, AllocError>
     requires rows { AreRows contexts.old table.old }
     ensures grown { IsGrown contexts.old contexts.new }
     ensures picks { HasSamePicks contexts.old contexts.new }

@@ -173,6 +173,13 @@ pub(crate) fn solve(
     place_there(&mut table, &system.there, contexts)?;
     place_given(&mut table, &system.given, contexts)?;
     let arcs = system.arcs.as_slice();
-    settle(alloc, &mut table, arcs, &empty, system.there.len(), contexts)?;
+    settle(
+        alloc,
+        &mut table,
+        arcs,
+        &empty,
+        system.there.len(),
+        contexts,
+    )?;
     Ok(table)
 }

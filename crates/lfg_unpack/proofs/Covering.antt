@@ -31,7 +31,7 @@ covers_one tree facts piece old new a pair t m is e = record {
   ];
   all = λ b n.
       (let same : pair ≡ pair_of tree facts b = is ∙ t.tells a b m n (λ x i. In-nil i) in
-       subst (λ (v : List Pair). In (pair_of tree facts b) v) (sym e) (subst (λ (v : Pair). In v (old ++ pair ∷ [])) same (In-push old pair)));
+      subst (λ (v : List Pair). In (pair_of tree facts b) v) (sym e) (subst (λ (v : Pair). In v (old ++ pair ∷ [])) same (In-push old pair)));
 }
 
 module _ (tree facts : Entries) (piece by inside outside : Set) (old mid new : List Pair)

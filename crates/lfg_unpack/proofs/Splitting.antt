@@ -121,7 +121,7 @@ gathers_push old e x same = record {
   among = record {
     each = λ d i.
         (let P : Fact × Set → Type 0 = λ v. IsAmong (old ++ x ∷ []) v.1 in
-         subst P (sym (In-one i)) (record { set = x; stands = In-push old x; same = λ a. ap (λ v. member v a) (sym same) }));
+        subst P (sym (In-one i)) (record { set = x; stands = In-push old x; same = λ a. ap (λ v. member v a) (sym same) }));
   };
   only = λ y i. elim (In-push_cases old x i) [
     | inl j ↦ inl j

@@ -23,7 +23,7 @@ loop-head-preserved c =
     let taken = heads_taken c.args.heads.now c.loop-head.head-index c.head-item.result c.loop-head-test.true c.head-item.is in
     let copy : c.in_ok-clone.field-0 ≡ c.head-item.result.name.now = search rules in
     let before : Tells (map head_of (take c.loop-head.head-index c.args.heads.now)) c.head-item.result.name.now c.copied-before.result =
-        subst (λ (o : Option Heading). Tells (map head_of (take c.loop-head.head-index c.args.heads.now)) c.head-item.result.name.now o) (sym (c.copied-before.ensures ∙ c.get.ensures.value)) (c.loop-head.invariant.told c.head-item.result.name.now) in
+    subst (λ (o : Option Heading). Tells (map head_of (take c.loop-head.head-index c.args.heads.now)) c.head-item.result.name.now o) (sym (c.copied-before.ensures ∙ c.get.ensures.value)) (c.loop-head.invariant.told c.head-item.result.name.now) in
     record {
       finds = subst (λ (hs : List Headed). Finds head_entry head_name Repeated hs (option_map spot_of c.in_ok-first.first)) (sym (headed_more c.args.heads.now c.loop-head.head-index c.head-item.result c.loop-head-test.true c.head-item.is))
           (c.in_ok-first.ensures (headed (map head_of (take c.loop-head.head-index c.args.heads.now))) (map head_of (take c.loop-head.head-index c.args.heads.now)) before c.loop-head.invariant.finds);

@@ -14,7 +14,7 @@ loop-first-preserved c = record {
   picks = same_picks_trans (same_picks_trans c.loop-first.invariant.picks c.in_ok-one.ensures.picks) c.in_ok-found.ensures.picks;
   made = c.in_ok-found.ensures.ok.made;
   tells = in_more (Clashes c.args.table.now c.args.values.now c.args.sources.now c.args.sets.now) c.args.values.now c.loop-first.first-index c.first-item.result (omega arith) c.first-item.is
-    c.loop-first.invariant.tells c.in_ok-one.ensures.tells c.in_ok-found.ensures.ok.members;
+      c.loop-first.invariant.tells c.in_ok-one.ensures.tells c.in_ok-found.ensures.ok.members;
 }
 
 pub clash_of-requires-clause-place : goal.clash_of-requires-clause-place

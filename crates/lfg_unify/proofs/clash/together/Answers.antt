@@ -11,13 +11,13 @@ pub and-requires-clause-a_made : goal.and-requires-clause-a_made
 and-requires-clause-a_made c =
     subst (λ (z : Set). IsMade c.args.contexts.now z) (sym c.context_at-same.ensures)
     (context_made c.args.empty.now c.row.result.now c.args.place c.requires.empty_made
-      (subst (λ (r : Row). IsRow c.args.contexts.now r) (sym c.row.ensures.row) (c.requires.rows.each c.args.first.now.0.0)))
+    (subst (λ (r : Row). IsRow c.args.contexts.now r) (sym c.row.ensures.row) (c.requires.rows.each c.args.first.now.0.0)))
 
 pub returns-clause-tells : goal.returns-clause-tells
 returns-clause-tells c =
     together_tells c.args.table.now c.args.first.now (c.args.place, c.args.ctx.now) c.context_at-same.result.now c.in_ok-all.all
     (λ a h. subst (λ (r : Row). Stands r a c.args.place) c.row.ensures.row
-      (context_stands c.args.empty.now c.row.result.now a c.args.place (c.requires.none a) (sym (ap (λ z. member z a) c.context_at-same.ensures) ∙ h)))
+    (context_stands c.args.empty.now c.row.result.now a c.args.place (c.requires.none a) (sym (ap (λ z. member z a) c.context_at-same.ensures) ∙ h)))
     (λ a h. ap (λ z. member z a) c.context_at-same.ensures
-      ∙ stands_context c.args.empty.now (length c.args.table.now) 0 c.row.result.now a c.args.place c.row.ensures.ascends (subst (λ (r : Row). Stands r a c.args.place) (sym c.row.ensures.row) h))
+    ∙ stands_context c.args.empty.now (length c.args.table.now) 0 c.row.result.now a c.args.place c.row.ensures.ascends (subst (λ (r : Row). Stands r a c.args.place) (sym c.row.ensures.row) h))
     (λ a. c.in_ok-all.ensures.ok.members a ∙ ap (λ b. b && member c.args.ctx.now a) (c.in_ok-both.ensures.ok.members a))

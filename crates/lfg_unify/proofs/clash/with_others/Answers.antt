@@ -13,5 +13,5 @@ loop-other-preserved c = record {
   picks = same_picks_trans (same_picks_trans c.loop-other.invariant.picks c.in_ok-one.ensures.picks) c.in_ok-found.ensures.picks;
   made = c.in_ok-found.ensures.ok.made;
   tells = in_more (IsBeside c.args.table.now c.args.first.now) c.args.others.now c.loop-other.other-index c.other-item.result (omega arith) c.other-item.is
-    c.loop-other.invariant.tells c.in_ok-one.ensures.tells c.in_ok-found.ensures.ok.members;
+      c.loop-other.invariant.tells c.in_ok-one.ensures.tells c.in_ok-found.ensures.ok.members;
 }

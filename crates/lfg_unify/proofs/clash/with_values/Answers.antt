@@ -13,5 +13,5 @@ loop-second-preserved c = record {
   picks = same_picks_trans (same_picks_trans c.loop-second.invariant.picks c.in_ok-one.ensures.picks) c.in_ok-found.ensures.picks;
   made = c.in_ok-found.ensures.ok.made;
   tells = in_more (Differs c.args.table.now c.args.first.now) c.args.values.now c.loop-second.second-index c.second-item.result (omega arith) c.second-item.is
-    c.loop-second.invariant.tells c.in_ok-one.ensures.tells c.in_ok-found.ensures.ok.members;
+      c.loop-second.invariant.tells c.in_ok-one.ensures.tells c.in_ok-found.ensures.ok.members;
 }

@@ -43,4 +43,4 @@ returns-clause-tells c =
     let g : c.as_slice-3.result.now ≡ map (set_in ns) c.args.members.now = c.as_slice-3.ensures.value ∙ c.in_ok-sets.ensures in
     subst (λ (vs : List Placed). Tells z (InSome vs (Clashes t vs (map (source_in ns) c.args.arcs.now) (map (set_in ns) c.args.members.now)))) e
     (subst (λ (xs : List (ℕ × Set)). Tells z (InSome c.as_slice.result.now (Clashes t c.as_slice.result.now xs (map (set_in ns) c.args.members.now)))) f
-      (subst (λ (xs : List (ℕ × Set)). Tells z (InSome c.as_slice.result.now (Clashes t c.as_slice.result.now c.as_slice-2.result.now xs))) g c.in_ok-found.ensures.tells))
+    (subst (λ (xs : List (ℕ × Set)). Tells z (InSome c.as_slice.result.now (Clashes t c.as_slice.result.now c.as_slice-2.result.now xs))) g c.in_ok-found.ensures.tells))

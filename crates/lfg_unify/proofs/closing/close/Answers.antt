@@ -49,7 +49,13 @@ returns-clause-closure c =
     let late = c.in_ok-clash.ensures.grown in
     let g = grown_trans c.in_ok-table.ensures.grown late in
     let finished : IsFinished ns rows list (flat_map values_in ls) (flat_map members_in ls) k.clash k.empty k = record {
-      nodes = f.nodes; rows_are = f.rows_are; arcs = f.arcs; values = f.values ∙ c.in_ok-values.ensures; members = f.members ∙ c.in_ok-members.ensures; clash = refl; empty = refl;
+      nodes = f.nodes;
+      rows_are = f.rows_are;
+      arcs = f.arcs;
+      values = f.values ∙ c.in_ok-values.ensures;
+      members = f.members ∙ c.in_ok-members.ensures;
+      clash = refl;
+      empty = refl;
     } in
     closes c.clash_of_all.new.contexts ns ls list s rows k collected c.in_ok-table.ensures.solves asc count (rows_grown late c.in_ok-table.ensures.rows)
     (are_made_grown g c.in_ok-system.ensures.arcs_made) (are_made_grown (grown_trans c.in_ok-system.ensures.grown g) c.requires) finished
@@ -57,5 +63,5 @@ returns-clause-closure c =
     (subst (λ (z : Set). IsMade c.clash_of_all.new.contexts z) (sym f.empty) c.no-empty.ensures.made)
     (λ a. ap (λ z. member z a) f.empty ∙ c.no-empty.ensures.members a)
     (subst (λ (z : Set). Tells z (InSome (map (placed_in ns) (flat_map values_in ls)) (Clashes rows (map (placed_in ns) (flat_map values_in ls)) (map (source_in ns) list) (map (set_in ns) (flat_map members_in ls))))) (sym f.clash)
-      (tells_parts c.in_ok-clash.clash rows c.as_slice-2.result.now ns c.as_slice-4.result.now (flat_map values_in ls) c.as_slice-3.result.now list c.as_slice-5.result.now (flat_map members_in ls)
-        c.as_slice-2.ensures.value (c.as_slice-4.ensures.value ∙ c.in_ok-values.ensures) c.as_slice-3.ensures.value (c.as_slice-5.ensures.value ∙ c.in_ok-members.ensures) c.in_ok-clash.ensures.tells))
+    (tells_parts c.in_ok-clash.clash rows c.as_slice-2.result.now ns c.as_slice-4.result.now (flat_map values_in ls) c.as_slice-3.result.now list c.as_slice-5.result.now (flat_map members_in ls)
+    c.as_slice-2.ensures.value (c.as_slice-4.ensures.value ∙ c.in_ok-values.ensures) c.as_slice-3.ensures.value (c.as_slice-5.ensures.value ∙ c.in_ok-members.ensures) c.in_ok-clash.ensures.tells))

@@ -36,9 +36,9 @@ pub returns-clause-made : goal.returns-clause-made
 returns-clause-made c = record {
   there = row_made c.in_ok-there.there.items (row_grown c.in_ok-defined.ensures.grown c.in_ok-there.ensures.row);
   given = subst (λ (xs : List ((ℕ × ℕ) × Set)). AreMade c.marked-2.new.contexts (λ e. e.1) xs) (sym c.in_ok-given.ensures)
-    (given_made c.args.nodes.now c.args.literals.now (are_made_grown (grown_trans c.in_ok-there.ensures.grown c.in_ok-defined.ensures.grown) c.requires.made));
+      (given_made c.args.nodes.now c.args.literals.now (are_made_grown (grown_trans c.in_ok-there.ensures.grown c.in_ok-defined.ensures.grown) c.requires.made));
   arcs = subst (λ (xs : List ((ℕ × Name × ℕ) × Set)). AreMade c.marked-2.new.contexts (λ e. e.1) xs) (sym (c.in_ok-numbered.ensures ∙ ap (map (arc_in c.args.nodes.now)) c.as_slice-2.ensures.value))
-    (map_made (arc_in c.args.nodes.now) (λ r. r.3) (λ e. e.1) c.in_ok-arcs.arcs.items (λ x. refl)
+      (map_made (arc_in c.args.nodes.now) (λ r. r.3) (λ e. e.1) c.in_ok-arcs.arcs.items (λ x. refl)
       (arcs_made c.args.nodes.now c.in_ok-defined.defined.items c.in_ok-arcs.arcs.items c.in_ok-defined.ensures.row
-        (subst (λ (r : Row). AreArcs c.args.nodes.now r c.in_ok-arcs.arcs.items) c.as_slice.ensures.value c.in_ok-arcs.ensures)));
+      (subst (λ (r : Row). AreArcs c.args.nodes.now r c.in_ok-arcs.arcs.items) c.as_slice.ensures.value c.in_ok-arcs.ensures)));
 }

@@ -13,5 +13,5 @@ loop-node-preserved c =
       ascends = step.ascends;
       row = step.row;
       marks = marks_more c.args.nodes.now c.args.found.now c.loop-node.node-index c.node-item.result c.args.ctx.now c.args.row.now.items c.loop-node.row.items c.mark_one.new.row.items
-        (omega arith) c.node-item.is inv.marks step.marks;
+          (omega arith) c.node-item.is inv.marks step.marks;
     }

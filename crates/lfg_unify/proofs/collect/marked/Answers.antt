@@ -18,6 +18,6 @@ loop-literal-preserved c =
       ascends = step.ascends;
       row = step.row;
       marked = marked_more c.args.nodes.now c.args.whole c.args.literals.now c.loop-literal.literal-index c.literal-item.result c.loop-literal.row.items c.mark.new.row.items
-        (omega arith) c.literal-item.is inv.marked
-        (subst (λ (xs : List Node). Marks c.args.nodes.now xs c.literal-item.result.1 c.loop-literal.row.items c.mark.new.row.items) (c.as_slice.ensures.value ∙ c.in_ok-found.ensures) step.marks);
+          (omega arith) c.literal-item.is inv.marked
+          (subst (λ (xs : List Node). Marks c.args.nodes.now xs c.literal-item.result.1 c.loop-literal.row.items c.mark.new.row.items) (c.as_slice.ensures.value ∙ c.in_ok-found.ensures) step.marks);
     }

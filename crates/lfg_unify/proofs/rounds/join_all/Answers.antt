@@ -15,7 +15,7 @@ loop-place-preserved c =
       place = omega arith;
       growth = λ arcs. growth_trans arcs c.args.table.now c.loop-place.table c.sweep_row.new.table (inv.growth arcs) (c.in_ok-sweep_row.ensures.growth arcs);
       joined = joined_more c.loop-place.place c.args.table.now c.loop-place.table c.sweep_row.new.table (inv.growth []).keeps (c.in_ok-sweep_row.ensures.growth []).keeps
-        c.in_ok-sweep_row.ensures.joined inv.joined;
+          c.in_ok-sweep_row.ensures.joined inv.joined;
       kept = elim c.if-branch.branch [
         | then-branch w ↦ λ e. (let no : true ≡ false = sym w.changed-is ∙ e in absurd (cc))
         | else-branch w ↦ λ e. c.in_ok-sweep_row.ensures.kept w.if-branch.false ∙ inv.kept (sym w.changed-is ∙ e)

@@ -25,7 +25,7 @@ loop-first-preserved c =
       rows = step.rows;
       growth = growth_trans c.args.arcs.now c.args.table.now c.loop-first.table c.link_from.new.table inv.growth grows;
       linked = links_more c.args.arcs.now c.args.arcs.now c.loop-first.first-index c.first-item.result c.args.table.now c.loop-first.table c.link_from.new.table
-        (omega arith) c.first-item.is inv.growth.keeps grows.keeps step.linked inv.linked;
+          (omega arith) c.first-item.is inv.growth.keeps grows.keeps step.linked inv.linked;
       kept = elim c.if-branch.branch [
         | then-branch w ↦ λ e. (let no : true ≡ false = sym w.changed-is ∙ e in absurd (cc))
         | else-branch w ↦ λ e. c.in_ok-link_from.ensures.kept w.if-branch.false ∙ inv.kept (sym w.changed-is ∙ e)

@@ -26,9 +26,9 @@ loop-second-preserved c =
       rows = step.rows;
       keeps = λ a i j h. grows.keeps a i j (inv.keeps a i j h);
       growth = λ i. growth_trans c.args.arcs.now c.args.table.now c.loop-second.table c.link.new.table (inv.growth i)
-        (step.growth c.args.arcs.now i (arc_in c.args.arcs.now c.loop-second.second-index c.second-item.result (omega arith) c.second-item.is));
+          (step.growth c.args.arcs.now i (arc_in c.args.arcs.now c.loop-second.second-index c.second-item.result (omega arith) c.second-item.is));
       linked = linked_more c.args.first.now c.args.arcs.now c.loop-second.second-index c.second-item.result c.args.table.now c.loop-second.table c.link.new.table
-        (omega arith) c.second-item.is inv.keeps grows.keeps step.linked inv.linked;
+          (omega arith) c.second-item.is inv.keeps grows.keeps step.linked inv.linked;
       kept = elim c.if-branch.branch [
         | then-branch w ↦ λ e. (let no : true ≡ false = sym w.changed-is ∙ e in absurd (cc))
         | else-branch w ↦ λ e. c.in_ok-link.ensures.kept w.if-branch.false ∙ inv.kept (sym w.changed-is ∙ e)

@@ -25,8 +25,8 @@ loop-number-preserved c =
       apart = inv.apart;
       number = omega (arith, h);
       step = takes_more (row_of c.args.table.now c.args.first) (row_of c.loop-number.table c.args.first) (row_of c.widen.new.self c.args.first) (row_of c.args.table.now c.args.second)
-        c.args.ctx.now c.in_ok-both.both c.loop-number.number c.index-row-number.result h (c.index-row-number.is ∙ ap (λ r. get_or r c.loop-number.number c.index-row-number.result) e)
-        c.in_ok-both.ensures.ok.members inv.step c.in_ok-widen.ensures.step;
+          c.args.ctx.now c.in_ok-both.both c.loop-number.number c.index-row-number.result h (c.index-row-number.is ∙ ap (λ r. get_or r c.loop-number.number c.index-row-number.result) e)
+          c.in_ok-both.ensures.ok.members inv.step c.in_ok-widen.ensures.step;
       kept = elim c.if-branch.branch [
         | then-branch w ↦ λ e. (let no : true ≡ false = sym w.changed-is ∙ e in absurd (cc))
         | else-branch w ↦ λ e. c.in_ok-widen.ensures.kept w.if-branch.false ∙ inv.kept (sym w.changed-is ∙ e)

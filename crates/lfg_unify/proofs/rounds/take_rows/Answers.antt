@@ -20,7 +20,7 @@ loop-entry-preserved c =
       rows = c.in_ok-take_row.ensures.rows;
       others = λ x n. c.in_ok-take_row.ensures.others x n ∙ inv.others x n;
       step = sweeps_more c.args.table.now c.loop-entry.table c.args.place c.args.row.now (row_of c.take_row.new.table c.args.place) c.loop-entry.entry-index c.entry-item.result
-        (omega arith) c.entry-item.is inv.others inv.step c.in_ok-take_row.ensures.step;
+          (omega arith) c.entry-item.is inv.others inv.step c.in_ok-take_row.ensures.step;
       kept = elim c.if-branch.branch [
         | then-branch w ↦ λ e. (let no : true ≡ false = sym w.changed-is ∙ e in absurd (cc))
         | else-branch w ↦ λ e. c.in_ok-take_row.ensures.kept w.if-branch.false ∙ inv.kept (sym w.changed-is ∙ e)

@@ -40,5 +40,5 @@ loop-entry-preserved c =
       len = c.widen-in-loop-entry.ensures.len ∙ c.widen.ensures.len ∙ inv.len;
       rows = c.widen-in-loop-entry.ensures.rows;
       adds = given_more c.args.given.now c.loop-entry.entry-index c.entry-item.result c.args.table.now c.loop-entry.table c.widen.new.self c.widen-in-loop-entry.new.self (omega arith) c.entry-item.is
-        c.widen.ensures.others c.in_ok-widen.ensures.step c.widen-in-loop-entry.ensures.others c.in_ok-widen-2.ensures.step inv.adds;
+          c.widen.ensures.others c.in_ok-widen.ensures.step c.widen-in-loop-entry.ensures.others c.in_ok-widen-2.ensures.step inv.adds;
     }

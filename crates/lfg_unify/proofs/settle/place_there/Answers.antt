@@ -29,5 +29,5 @@ loop-entry-preserved c =
       len = step.len ∙ inv.len;
       rows = step.rows;
       adds = there_more c.args.there.now c.loop-entry.entry-index c.entry-item.result c.args.table.now c.loop-entry.table c.widen.new.self (omega arith) c.entry-item.is
-        step.others c.in_ok-widen.ensures.step inv.adds;
+          step.others c.in_ok-widen.ensures.step inv.adds;
     }

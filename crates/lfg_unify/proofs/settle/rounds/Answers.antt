@@ -26,10 +26,10 @@ loop-turn-preserved c =
       rows = step.rows;
       growth = growth_trans c.args.arcs.now c.args.table.now c.loop-turn.table c.round.new.table inv.growth step.growth;
       more = λ s n e r.
-        let l : AreLinked s.arcs.items s.arcs.items c.loop-turn.table c.round.new.table = subst (λ (xs : List Arc). AreLinked xs xs c.loop-turn.table c.round.new.table) (sym e) step.linked in
-        let z : n + c.loop-turn._turn + 1 ≡ n + (c.loop-turn._turn + 1) = omega arith in
-        subst (λ (m : ℕ). HasRounds s m c.round.new.table) z
-        (one_round s (n + c.loop-turn._turn) c.loop-turn.table c.round.new.table step.growth.keeps step.joined l (inv.more s n e r));
+          let l : AreLinked s.arcs.items s.arcs.items c.loop-turn.table c.round.new.table = subst (λ (xs : List Arc). AreLinked xs xs c.loop-turn.table c.round.new.table) (sym e) step.linked in
+          let z : n + c.loop-turn._turn + 1 ≡ n + (c.loop-turn._turn + 1) = omega arith in
+          subst (λ (m : ℕ). HasRounds s m c.round.new.table) z
+          (one_round s (n + c.loop-turn._turn) c.loop-turn.table c.round.new.table step.growth.keeps step.joined l (inv.more s n e r));
     }
 
 pub returns-then-not-branch-clause-settled : goal.returns-then-not-branch-clause-settled

@@ -45,7 +45,7 @@ pub returns-clause-row : goal.returns-clause-row
 returns-clause-row c =
     subst (λ (r : Row). IsRow c.args.contexts.now r) (sym c.in_ok-insert.ensures.items)
     (is_row_insert c.args.row.now.items c.count_before-at.result c.args.place c.in_ok-share.field-0 (subst (λ (z : Set). IsMade c.args.contexts.now z) (sym c.in_ok-share.ensures) c.requires.made)
-      (let s = c.is_empty.ensures.some c.if-is_empty.false in (s.0, ap (λ z. member z s.0) c.in_ok-share.ensures ∙ s.1)) c.requires.row)
+    (let s = c.is_empty.ensures.some c.if-is_empty.false in (s.0, ap (λ z. member z s.0) c.in_ok-share.ensures ∙ s.1)) c.requires.row)
 
 pub returns-clause-step : goal.returns-clause-step
 returns-clause-step c =

@@ -11,14 +11,64 @@ use Rattle.lfg_unpack.proofs.Covering.{covers_one, covers_both}
 use Rattle.lfg_unpack.proofs.unpacking.+splitting.Goals as goal
 
 pub add_parts-add_pairs-requires : goal.add_parts-add_pairs-requires
-add_parts-add_pairs-requires t c = (omega (arith, c.decreases), (c.requires.plain, (search (rules, growing), (search (rules, growing), (c.in_ok-inside.ensures.ok.made,
-    (depends_and c.requires.piece_depends c.requires.by_depends c.in_ok-inside.ensures.ok, (search (rules, growing), (c.requires.others_depend, (search (rules, growing),
-    tells_inside c.args.tree.now c.args.facts.now c.args.piece.now c.in_ok-inside.inside c.args.by.now c.args.others.now c.requires.tells c.in_ok-inside.ensures.ok.members)))))))))
+add_parts-add_pairs-requires t c = (
+  omega (arith, c.decreases),
+  (
+    c.requires.plain,
+    (
+      search (rules, growing),
+      (
+        search (rules, growing),
+        (
+          c.in_ok-inside.ensures.ok.made,
+          (
+            depends_and c.requires.piece_depends c.requires.by_depends c.in_ok-inside.ensures.ok,
+            (
+              search (rules, growing),
+              (
+                c.requires.others_depend,
+                (
+                  search (rules, growing),
+                  tells_inside c.args.tree.now c.args.facts.now c.args.piece.now c.in_ok-inside.inside c.args.by.now c.args.others.now c.requires.tells c.in_ok-inside.ensures.ok.members,
+                ),
+              ),
+            ),
+          ),
+        ),
+      ),
+    ),
+  ),
+)
 
 pub add_parts-add_pairs-requires-2 : goal.add_parts-add_pairs-requires-2
-add_parts-add_pairs-requires-2 t c = (omega (arith, c.decreases), (c.requires.plain, (search (rules, growing), (search (rules, growing), (c.in_ok-outside.ensures.ok.made,
-    (depends_without c.requires.piece_depends c.requires.by_depends c.in_ok-outside.ensures.ok, (search (rules, growing), (c.requires.others_depend, (search (rules, growing),
-    tells_outside c.args.tree.now c.args.facts.now c.args.piece.now c.in_ok-outside.outside c.args.by.now c.args.others.now c.requires.tells c.in_ok-outside.ensures.ok.members)))))))))
+add_parts-add_pairs-requires-2 t c = (
+  omega (arith, c.decreases),
+  (
+    c.requires.plain,
+    (
+      search (rules, growing),
+      (
+        search (rules, growing),
+        (
+          c.in_ok-outside.ensures.ok.made,
+          (
+            depends_without c.requires.piece_depends c.requires.by_depends c.in_ok-outside.ensures.ok,
+            (
+              search (rules, growing),
+              (
+                c.requires.others_depend,
+                (
+                  search (rules, growing),
+                  tells_outside c.args.tree.now c.args.facts.now c.args.piece.now c.in_ok-outside.outside c.args.by.now c.args.others.now c.requires.tells c.in_ok-outside.ensures.ok.members,
+                ),
+              ),
+            ),
+          ),
+        ),
+      ),
+    ),
+  ),
+)
 
 pub add_parts-returns-clause-covers : goal.add_parts-returns-clause-covers
 add_parts-returns-clause-covers t c =
@@ -33,9 +83,22 @@ add_pairs_from-add_parts-requires t c =
     let T : List Set → Type 0 = λ v. TellsPairs c.args.tree.now c.args.facts.now c.args.piece.now v in
     let made : M (c.in-Some.by.now ∷ c.in-Some.others.now) = subst M is (included_made c.in_ok-left.ensures.among (are_made_grown c.in_ok-left.ensures.grown c.requires.sets_made)) in
     let depend : D (c.in-Some.by.now ∷ c.in-Some.others.now) = subst D is (included_depend c.in_ok-left.ensures.among c.requires.sets_depend) in
-    let tells : T (c.in-Some.by.now ∷ c.in-Some.others.now) = subst T is (tells_left c.args.tree.now c.args.facts.now c.args.piece.now c.args.sets.now c.in_ok-left.left.items c.requires.tells c.in_ok-left.ensures.settles) in
-    (omega (arith, c.decreases, ap length is, c.in_ok-left.ensures.fewer), (c.requires.plain, (search (rules, growing), (search (rules, growing), (search (rules, growing),
-    (c.requires.piece_depends, (first_made made, (first_depends depend, (rest_made made, (rest_depend depend, (search (rules, growing), tells)))))))))))
+    let tells : T (c.in-Some.by.now ∷ c.in-Some.others.now) = subst T is (tells_left c.args.tree.now c.args.facts.now c.args.piece.now c.args.sets.now c.in_ok-left.left.items c.requires.tells c.in_ok-left.ensures.settles) in (
+      omega (arith, c.decreases, ap length is, c.in_ok-left.ensures.fewer),
+      (
+        c.requires.plain,
+        (
+          search (rules, growing),
+          (
+            search (rules, growing),
+            (
+              search (rules, growing),
+              (c.requires.piece_depends, (first_made made, (first_depends depend, (rest_made made, (rest_depend depend, (search (rules, growing), tells)))))),
+            ),
+          ),
+        ),
+      ),
+    )
 
 pub add_pairs_from-returns-clause-covers : goal.add_pairs_from-returns-clause-covers
 add_pairs_from-returns-clause-covers t c =
