@@ -69,8 +69,14 @@ pub fn chart_of<L: Ledger>(
     ensures steps { IfOk result (λ it. steps.new ≤ steps.old + (4 * (length it.tokens.items + 1) ^ 3) * (item_total it.grammar + 1) ^ 2) }
     ensures fault { IfErr result (IsChartFault file.now line.now) }
 {
-    let grammar = grammar_of(alloc, file)?;
-    let tokens = tokens_of(alloc, line)?;
+    let grammar = match grammar_of(alloc, file) {
+        Ok(grammar) => grammar,
+        Err(fault) => return Err(fault),
+    };
+    let tokens = match tokens_of(alloc, line) {
+        Ok(tokens) => tokens,
+        Err(fault) => return Err(fault),
+    };
     loaded_grammars_keep_the_conditions();
     let chart = chart(alloc, &grammar, &tokens, steps)?;
     Ok(Charted {

@@ -83,7 +83,10 @@ fn a_list_of_two_words(rt: HostRuntime) -> Result<(), Fail> {
     let alloc = rt.alloc();
     let it = charted(alloc, L, "w w")?;
     let chart = &it.chart;
-    assert_eq!(rt; edges_text(alloc, chart)?.as_str(), "L:0:2 W:0:1 L:1:2 W:1:2 ");
+    assert_eq!(rt;
+        edges_text(alloc, chart)?.as_str(),
+        "L:0:2 W:0:1 L:1:2 W:1:2 "
+    );
     let points = "L:0:2 0@0: 1>1; L:0:2 1@1: 2>2; L:0:2 2@2: end; L:1:2 0@1: 1>2; L:1:2 1@2: end; ";
     assert_eq!(rt; points_text(alloc, chart)?.as_str(), points);
     Ok(())
@@ -161,7 +164,15 @@ fn twenty_prepositional_phrases(rt: HostRuntime) -> Result<(), Fail> {
     let it = charted(alloc, EN, long_line(alloc)?.as_str())?;
     assert_eq!(rt; it.tokens.len(), 62);
     assert_eq!(rt; it.chart.edges().len(), 485);
-    for (cat, expected) in [("PP", 210), ("NP", 211), ("PN", 1), ("V", 1), ("P", 20), ("D", 20), ("N", 20)] {
+    for (cat, expected) in [
+        ("PP", 210),
+        ("NP", 211),
+        ("PN", 1),
+        ("V", 1),
+        ("P", 20),
+        ("D", 20),
+        ("N", 20),
+    ] {
         assert_eq!(rt; count(&it.chart, cat), expected, "{cat}");
     }
     let sentence = it.chart.place_of_edge(&edge(alloc, "S", 0, 62)?);

@@ -3,9 +3,9 @@
 #![tactic(auto)]
 
 mod charted;
-mod fault;
 #[cfg(test)]
 mod charts;
+mod fault;
 #[cfg(test)]
 mod files;
 #[cfg(test)]
