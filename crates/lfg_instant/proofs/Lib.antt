@@ -1,0 +1,3 @@
+mod CollectLaws
+mod FlowRounds
+mod FlowTables

@@ -1,0 +1,6 @@
+pub mod Collects
+pub mod Flow
+pub mod Junctions
+pub mod Outlines
+pub mod Sites
+pub mod Steps
