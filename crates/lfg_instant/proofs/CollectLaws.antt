@@ -4,6 +4,7 @@ use Rattle.std.specs.Prelude.{◌↔◌}
 use Rattle.std.proofs.lemmas.Option.{slice_get-get_or, slice_get_within, get_or_from_slice_get}
 use Rattle.lfg_model.specs.Lists.{In, here, later}
 use Rattle.lfg_model.proofs.ListLaws.{In-nil, In-append_left, In-push, In-push_cases, In-take_more}
+use Rattle.std.proofs.lemmas.List.{take_more}
 use Rattle.lfg_instant.specs.Collects.{Collects}
 
 pub one_more : (Q : ℕ → Type 0) (n : ℕ) → ((m : ℕ) × (m < n + 1) × Q m) ↔ (((m : ℕ) × (m < n) × Q m) ⊎ Q n)
@@ -78,3 +79,35 @@ module _ {X : Type 0} where
 -- what stands at a place
 pub place_is : {X : Type 0} (xs : List X) (k : ℕ) (x : X) → k < length xs → x ≡ get_or xs k x → slice_get xs k ≡ Some x
 place_is xs k x l e = slice_get-get_or xs k x l ∙ ap Some (sym e)
+
+pub one_more_in : {X : Type 0} (Q : X → Type 0) (xs : List X) (i : ℕ) (d : X) → i < length xs → ((x : X) × In x (take (i + 1) xs) × Q x) ↔ (((x : X) × In x (take i xs) × Q x) ⊎ Q (get_or xs i d))
+one_more_in Q xs i d l = (
+  (λ w. elim (In-take_more xs i d l w.1) [ inl a ↦ inl (w.0, a, w.2) | inr e ↦ inr (subst Q e w.2) ]),
+  (λ h. elim h [
+    | inl w ↦ (w.0, rw (take_more xs i d l) (In-append_left (get_or xs i d ∷ []) w.1), w.2)
+    | inr q ↦ (get_or xs i d, rw (take_more xs i d l) (In-push (take i xs) (get_or xs i d)), q)
+  ]),
+)
+
+-- one step more of a loop over the elements of a list
+pub listed_more : {X Y : Type 0} (xs ys zs : List X) (Q : Y → X → Type 0) (us : List Y) (n : ℕ) (d : Y) → n < length us → d ≡ get_or us n d
+    → Collects xs ys (λ x. (y : Y) × In y (take n us) × Q y x) → Collects ys zs (Q d) → Collects xs zs (λ x. (y : Y) × In y (take (n + 1) us) × Q y x)
+listed_more {X} {Y} xs ys zs Q us n d l e f g = collects_trans xs ys zs (λ x. (y : Y) × In y (take n us) × Q y x) (Q d) (λ x. (y : Y) × In y (take (n + 1) us) × Q y x) f g
+    (λ x. (let o = one_more_in (λ y. Q y x) us n d l in (
+      (λ h. elim (o.0 h) [ inl p ↦ inl p | inr q ↦ inr (let P : Y → Type 0 = λ y. Q y x in subst P (sym e) q) ]),
+      (λ h. o.1 (elim h [ inl p ↦ inl p | inr r ↦ inr (let P : Y → Type 0 = λ y. Q y x in subst P e r) ])),
+    )))
+
+pub listed_none : {X Y : Type 0} (xs : List X) (Q : Y → X → Type 0) (us : List Y) → Collects xs xs (λ x. (y : Y) × In y (take 0 us) × Q y x)
+listed_none {X} {Y} xs Q us = collects_none xs (λ x. (y : Y) × In y (take 0 us) × Q y x) (λ x w. In-nil w.1)
+
+-- all of a list
+pub take_whole : {X : Type 0} (xs : List X) (n : ℕ) → length xs ≤ n → take n xs ≡ xs
+take_whole [] zero l = refl
+take_whole [] (suc n) l = refl
+take_whole (x ∷ xs) zero l = absurd (omega arith)
+take_whole (x ∷ xs) (suc n) l = ap (λ ys. x ∷ ys) (take_whole xs n (omega arith))
+
+pub listed_all : {X Y : Type 0} (xs ys : List X) (Q : Y → X → Type 0) (us : List Y) (n : ℕ) → length us ≤ n
+    → Collects xs ys (λ x. (y : Y) × In y (take n us) × Q y x) → Collects xs ys (λ x. (y : Y) × In y us × Q y x)
+listed_all {X} {Y} xs ys Q us n l f = let P : List Y → Type 0 = λ vs. Collects xs ys (λ x. (y : Y) × In y vs × Q y x) in subst P (take_whole us n l) f

@@ -1,3 +1,4 @@
 mod CollectLaws
+mod FactLaws
 mod FlowRounds
 mod FlowTables

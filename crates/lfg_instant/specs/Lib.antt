@@ -1,4 +1,5 @@
 pub mod Collects
+pub mod Facts
 pub mod Flow
 pub mod Junctions
 pub mod Outlines

@@ -1,6 +1,7 @@
 //! Every literal of a sentence in its context, and the choices of the sentence.
 #![tactic(auto)]
 
+mod facts;
 mod flow;
 mod junctions;
 mod steps;
