@@ -2,3 +2,4 @@ mod CollectLaws
 mod FactLaws
 mod FlowRounds
 mod FlowTables
+mod InstanceLaws
