@@ -1,9 +1,10 @@
 -- Lists that collect elements.
 use Rattle.std.proofs.Common.{◌≡◌, ℕ, zero, suc, ◌+◌, ◌<◌, ◌≤◌, ◌⊎◌, inl, inr, List, [], ◌∷◌, ◌++◌, length, get_or, take, slice_get, Some, refl, sym, ap, subst, ◌∙◌, arith}
 use Rattle.std.specs.Prelude.{◌↔◌}
-use Rattle.std.proofs.lemmas.Option.{slice_get-get_or, slice_get_within, get_or_from_slice_get}
+use Rattle.std.proofs.lemmas.Option.{same_Some, slice_get-get_or, slice_get_within}
 use Rattle.lfg_model.specs.Lists.{In, here, later}
 use Rattle.lfg_model.proofs.ListLaws.{In-nil, In-append_left, In-push, In-push_cases, In-take_more}
+use Rattle.lfg_packed.proofs.Listing.{In_get, get_In}
 use Rattle.lfg_instant.specs.Collects.{Collects}
 
 pub one_more : (Q : ℕ → Type 0) (n : ℕ) → ((m : ℕ) × (m < n + 1) × Q m) ↔ (((m : ℕ) × (m < n) × Q m) ⊎ Q n)
@@ -78,3 +79,20 @@ module _ {X : Type 0} where
 -- what stands at a place
 pub place_is : {X : Type 0} (xs : List X) (k : ℕ) (x : X) → k < length xs → x ≡ get_or xs k x → slice_get xs k ≡ Some x
 place_is xs k x l e = slice_get-get_or xs k x l ∙ ap Some (sym e)
+
+-- what is made of the elements of a list, one place after the other
+module _ {X Y : Type 0} (f : X → Y) (xs : List X) where
+  abbrev pub MadeBy : ℕ → Y → Type 0
+  MadeBy m y = (x : X) × (slice_get xs m ≡ Some x) × (y ≡ f x)
+
+  pub made_one : (m : ℕ) (x : X) → slice_get xs m ≡ Some x → (y : Y) → MadeBy m y ↔ (y ≡ f x)
+  made_one m x there y = (
+    (λ h. h.2 ∙ ap f (same_Some h.0 x (sym h.1 ∙ there))),
+    (λ e. (x, there, e)),
+  )
+
+  pub made_all : (n : ℕ) → length xs ≤ n → (y : Y) → ((m : ℕ) × (m < n) × MadeBy m y) ↔ ((x : X) × In x xs × (y ≡ f x))
+  made_all n l y = (
+    (λ h. (h.2.0, get_In xs h.0 h.2.0 h.2.1, h.2.2)),
+    (λ h. (let at = In_get h.1 in (at.0, (let w = slice_get_within xs at.0 h.0 at.1 in omega (arith, w, l)), (h.0, at.1, h.2)))),
+  )
