@@ -1,10 +1,11 @@
 -- Lists that collect elements.
 use Rattle.std.proofs.Common.{◌≡◌, ℕ, zero, suc, ◌+◌, ◌<◌, ◌≤◌, ◌⊎◌, inl, inr, List, [], ◌∷◌, ◌++◌, length, get_or, take, slice_get, Some, refl, sym, ap, subst, ◌∙◌, arith}
 use Rattle.std.specs.Prelude.{◌↔◌}
-use Rattle.std.proofs.lemmas.Option.{slice_get-get_or, slice_get_within, get_or_from_slice_get}
+use Rattle.std.proofs.lemmas.Option.{same_Some, slice_get-get_or, slice_get_within}
 use Rattle.lfg_model.specs.Lists.{In, here, later}
 use Rattle.lfg_model.proofs.ListLaws.{In-nil, In-append_left, In-push, In-push_cases, In-take_more}
 use Rattle.std.proofs.lemmas.List.{take_more}
+use Rattle.lfg_packed.proofs.Listing.{In_get, get_In}
 use Rattle.lfg_instant.specs.Collects.{Collects}
 
 pub one_more : (Q : ℕ → Type 0) (n : ℕ) → ((m : ℕ) × (m < n + 1) × Q m) ↔ (((m : ℕ) × (m < n) × Q m) ⊎ Q n)
@@ -111,3 +112,20 @@ take_whole (x ∷ xs) (suc n) l = ap (λ ys. x ∷ ys) (take_whole xs n (omega a
 pub listed_all : {X Y : Type 0} (xs ys : List X) (Q : Y → X → Type 0) (us : List Y) (n : ℕ) → length us ≤ n
     → Collects xs ys (λ x. (y : Y) × In y (take n us) × Q y x) → Collects xs ys (λ x. (y : Y) × In y us × Q y x)
 listed_all {X} {Y} xs ys Q us n l f = let P : List Y → Type 0 = λ vs. Collects xs ys (λ x. (y : Y) × In y vs × Q y x) in subst P (take_whole us n l) f
+
+-- what is made of the elements of a list, one place after the other
+module _ {X Y : Type 0} (f : X → Y) (xs : List X) where
+  abbrev pub MadeBy : ℕ → Y → Type 0
+  MadeBy m y = (x : X) × (slice_get xs m ≡ Some x) × (y ≡ f x)
+
+  pub made_one : (m : ℕ) (x : X) → slice_get xs m ≡ Some x → (y : Y) → MadeBy m y ↔ (y ≡ f x)
+  made_one m x there y = (
+    (λ h. h.2 ∙ ap f (same_Some h.0 x (sym h.1 ∙ there))),
+    (λ e. (x, there, e)),
+  )
+
+  pub made_all : (n : ℕ) → length xs ≤ n → (y : Y) → ((m : ℕ) × (m < n) × MadeBy m y) ↔ ((x : X) × In x xs × (y ≡ f x))
+  made_all n l y = (
+    (λ h. (h.2.0, get_In xs h.0 h.2.0 h.2.1, h.2.2)),
+    (λ h. (let at = In_get h.1 in (at.0, (let w = slice_get_within xs at.0 h.0 at.1 in omega (arith, w, l)), (h.0, at.1, h.2)))),
+  )

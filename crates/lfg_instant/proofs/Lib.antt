@@ -1,5 +1,9 @@
 mod CollectLaws
+mod EntryLaws
 mod FactLaws
 mod FlowRounds
 mod FlowTables
 mod InstanceLaws
+mod SiteLaws
+mod StepLaws
+mod WordLaws

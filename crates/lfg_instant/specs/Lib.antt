@@ -6,3 +6,4 @@ pub mod Junctions
 pub mod Outlines
 pub mod Sites
 pub mod Steps
+pub mod Words
