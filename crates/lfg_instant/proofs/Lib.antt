@@ -1,3 +1,8 @@
+mod BranchLaws
 mod CollectLaws
 mod FlowRounds
 mod FlowTables
+mod JunctionLaws
+mod JunctionsHold
+mod JunctionTies
+mod TakenLaws

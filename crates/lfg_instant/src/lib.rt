@@ -3,4 +3,6 @@
 
 mod flow;
 mod junctions;
+mod picks;
+mod sizes;
 mod steps;
