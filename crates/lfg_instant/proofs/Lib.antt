@@ -1,9 +1,14 @@
+mod BranchLaws
 mod CollectLaws
 mod EntryLaws
 mod FactLaws
 mod FlowRounds
 mod FlowTables
 mod InstanceLaws
+mod JunctionLaws
+mod JunctionTies
+mod JunctionsHold
 mod SiteLaws
 mod StepLaws
+mod TakenLaws
 mod WordLaws

@@ -2,8 +2,10 @@ pub mod Collects
 pub mod Facts
 pub mod Flow
 pub mod Holding
+pub mod JunctionOrder
 pub mod Junctions
 pub mod Outlines
 pub mod Sites
+pub mod Sizes
 pub mod Steps
 pub mod Words

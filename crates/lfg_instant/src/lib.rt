@@ -5,6 +5,8 @@ mod entries;
 mod facts;
 mod flow;
 mod junctions;
+mod picks;
 mod sites;
+mod sizes;
 mod steps;
 mod words;
