@@ -1,3 +1,4 @@
+pub mod Annotations
 pub mod Collects
 pub mod Facts
 pub mod Flow
