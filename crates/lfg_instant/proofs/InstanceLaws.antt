@@ -37,6 +37,7 @@ use Rattle.lfg_packed.proofs.Selecting.{selection, picked_selected}
 use Rattle.lfg_packed.proofs.SiteLaws.{literals_by_picks}
 use Rattle.lfg_packed.proofs.SpotLaws.{tree_facts_are_of_spots}
 use Rattle.lfg_instant.specs.Holding.{holding, beside}
+use Rattle.lfg_instant.specs.Literals.{listed_of}
 use Rattle.lfg_instant.specs.Outlines.{words_beside, selected, FactReached, AreSetsOf}
 use Rattle.lfg_instant.specs.Sites.{AreEntryLists, site_key, site_of_key, AreSiteKeys}
 
@@ -108,12 +109,6 @@ holding_once {X} (x ∷ xs) (set ∷ sets) a (more n o) = go (member set a) refl
         let P : Bool → Type 0 = λ c. Once (if c then x ∷ holding (beside xs sets) a else holding (beside xs sets) a) in
         subst P (sym e) (more (λ i. let r = holding_has xs sets a x i in n (get_In xs r.0 x r.2)) rest)
     go false e rest = let P : Bool → Type 0 = λ c. Once (if c then x ∷ holding (beside xs sets) a else holding (beside xs sets) a) in subst P (sym e) rest
-
--- what is listed at the things, or nothing where their sets have not the assignment
-abbrev pub listed_of : {X Y : Type 0} → (X → List Y) → List X → List Set → Assignment → List Y
-listed_of f [] sets a = []
-listed_of f (x ∷ xs) [] a = []
-listed_of f (x ∷ xs) (set ∷ sets) a = (if member set a then f x else []) ++ listed_of f xs sets a
 
 pub listed_holding : {X Y : Type 0} (f : X → List Y) (xs : List X) (sets : List Set) (a : Assignment) → listed_of f xs sets a ≡ flat_map f (reached_of xs sets a)
 listed_holding f [] sets a = refl

@@ -1,21 +1,22 @@
 pub mod AppendLaws
-mod BranchLaws
-mod CollectLaws
-mod EntryLaws
-mod FactLaws
-mod FlowRounds
-mod FlowTables
+pub mod BranchLaws
+pub mod CollectLaws
+pub mod EntryLaws
+pub mod FactLaws
+pub mod FlowRounds
+pub mod FlowTables
 pub mod Holding
-mod InstanceLaws
-mod JunctionLaws
-mod JunctionTies
-mod JunctionsHold
+pub mod InstanceLaws
+pub mod JunctionLaws
+pub mod JunctionTies
+pub mod JunctionsHold
+pub mod LiteralLaws
 pub mod MadeLaws
 pub mod PickLaws
 pub mod SetLaws
-mod SiteLaws
-mod StepLaws
+pub mod SiteLaws
+pub mod StepLaws
 pub mod StringLaws
-mod TakenLaws
+pub mod TakenLaws
 pub mod WalkLaws
-mod WordLaws
+pub mod WordLaws

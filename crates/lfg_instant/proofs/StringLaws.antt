@@ -10,7 +10,7 @@ use Rattle.lfg_model.specs.Resolve.{Instance, edge_at, string_at, string_taken, 
 use Rattle.lfg_context.specs.Seen.{Set}
 use Rattle.lfg_context.specs.Sets.{Assignment, member}
 use Rattle.lfg_instant.specs.Annotations.{holding, IsPick, ArePicks, arities, Appends}
-use Rattle.lfg_instant.specs.Sizes.{string_count}
+use Rattle.lfg_packed.specs.Sizes.{string_count}
 use Rattle.lfg_instant.proofs.Holding.{holding-push}
 use Rattle.lfg_instant.proofs.PickLaws.{later_is_none, none_is_later, same_later}
 

@@ -3,12 +3,17 @@ use Rattle.std.proofs.Common.{◌≡◌, ℕ, zero, suc, ◌+◌, ◌-◌, ◌*�
 use Rattle.lfg_terms.specs.declared.literal.Literal.{Literal}
 use Rattle.lfg_model.specs.Places.{places, schema_places, branch_count, branch_places, form_count, schema_forms, branch_forms}
 use Rattle.lfg_model.specs.Resolve.{Instance, resolved, schema_literals, branch_literals}
-use Rattle.lfg_model.specs.Terms.{Schema, either, maybe, Annotation, no_schema, and_schema, Branches, no_branch, or_branch}
+use Rattle.std.specs.declared.vec.Vec.{Vec}
+use Rattle.std.specs.Global.{Global}
+use Rattle.lfg_terms.specs.declared.grammar.Schema as declared
+use Rattle.lfg_terms.specs.declared.grammar.Schema.{Maybe}
+use Rattle.lfg_model.proofs.SchemaViews.{maybe_schema}
+use Rattle.lfg_model.specs.Terms.{Paths, schema_of, annotation_of, Schema, either, maybe, Annotation, no_schema, and_schema, Branches, no_branch, or_branch}
 use Rattle.lfg_context.specs.Seen.{Set}
 use Rattle.lfg_context.specs.Sets.{Assignment, member}
 use Rattle.std.specs.Prelude.{slice_get, Some}
 use Rattle.lfg_instant.specs.Annotations.{Appends, arities}
-use Rattle.lfg_instant.specs.Sizes.{literal_size, schema_size, branches_size}
+use Rattle.lfg_packed.specs.Sizes.{literal_size, schema_size, branches_size}
 use Rattle.lfg_instant.proofs.PickLaws.{arities_before, arities_behind}
 use Rattle.lfg_instant.proofs.AppendLaws.{appends_none, appends_both, AppendsTaken, taken_none, taken_step, taken_done, option_done}
 use Rattle.lfg_instant.proofs.BranchLaws.{branches_past}
@@ -152,6 +157,11 @@ option_places s inside alternatives whole picks e w shape =
     head : List ℕ → ℕ
     head [] = 0
     head (n ∷ ns) = n
+
+-- the same of the schema as the program has it
+pub option_two : (s : declared.Schema Paths) (v : Vec (declared.Schema Paths) Global) (alternatives : List Set) (whole picks : List (List Set)) → s ≡ Maybe v → whole ≡ alternatives ∷ picks → arities whole ≡ schema_places (schema_of s)
+    → length alternatives ≡ 2
+option_two s v alternatives whole picks e w shape = (option_places (schema_of s) (annotation_of v.items) alternatives whole picks (maybe_schema s v v.items e refl) w shape).1
 
 pub option_given : (it : Instance) (s : Schema) (inside : Annotation) (index : ℕ) (alternatives : List Set) (whole picks : List (List Set)) (c : Set) (old : List (Literal × Set)) (x m : Set) (new : List (Literal × Set))
     → s ≡ maybe inside → whole ≡ alternatives ∷ picks → slice_get alternatives 0 ≡ Some x → ((a : Assignment) → member m a ≡ member c a && member x a)

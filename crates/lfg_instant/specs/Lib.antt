@@ -5,6 +5,7 @@ pub mod Flow
 pub mod Holding
 pub mod JunctionOrder
 pub mod Junctions
+pub mod Literals
 pub mod Outlines
 pub mod Sites
 pub mod Sizes

@@ -5,11 +5,11 @@ ghost use Rattle.lfg_model.specs.Resolve.{node_of, equation, resolved, schema_li
 ghost use Rattle.lfg_model.specs.Terms.{annotation_of, schema_of, define, constrain, exists, member};
 ghost use Rattle.lfg_context.specs.Sets.{AreMade, IsMade, IsGrown, HasSamePicks};
 ghost use Rattle.lfg_instant.specs.Annotations.{instance_of, arities, ArePicksMade, Appends};
-ghost use Rattle.lfg_instant.specs.Sizes.{string_count, val_count, literal_size, schema_size};
+ghost use Rattle.lfg_packed.specs.Sizes.{string_count, val_strings, literal_size, schema_size};
 
 use crate::places::{cut, first_place, forms, path_places, places, schema_forms, schema_places};
 use lfg_context::{Contexts, Ctx};
-use lfg_terms::{Check, Des, Edge, List, Literal, Node, Paths, Schema, Site, Val};
+use lfg_terms::{Check, Des, Edge, Form, List, Literal, Node, Paths, Schema, Site, Val};
 use std::alloc::{AllocError, Global};
 
 /// An annotation at its place: the edges of its two arrows, and the site that tells its forms
@@ -190,7 +190,7 @@ impl Instance<'_> {
             (λ ps. equation (instance_of self.now) at.now right.now ps index ∷ [])
             picks.now ctx.now literals.old.items literals.new.items) }
         ensures count { OnOk result (length literals.new.items
-            ≡ length literals.old.items + val_count right.now) }
+            ≡ length literals.old.items + val_strings right.now) }
         ensures made { AreMade contexts.new (λ x. x.1) literals.new.items }
         ensures grown { IsGrown contexts.old contexts.new }
         ensures same_picks { HasSamePicks contexts.old contexts.new }
@@ -205,15 +205,23 @@ impl Instance<'_> {
                 push_literal(literals, literal, ctx)
             }
             Val::Form(form) => {
-                let literal = Literal::Form {
-                    at: at.clone()?,
-                    form: form.clone()?,
-                    site: self.site.clone()?,
-                    index,
-                };
+                let literal = self.form_value(at, form, index)?;
                 push_literal(literals, literal, ctx)
             }
         }
+    }
+
+    /// That the node has this form as its value.
+    fn form_value(&self, at: &Node, form: &Form, index: u32) -> Result<Literal, AllocError>
+        ensures { IfOk result
+            (λ it. it ≡ literal.Form at.now form.now (instance_of self.now).site index) }
+    {
+        Ok(Literal::Form {
+            at: at.clone()?,
+            form: form.clone()?,
+            site: self.site.clone()?,
+            index,
+        })
     }
 
     /// Appends that the node is one with each to which the designator may lead.

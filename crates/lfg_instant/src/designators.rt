@@ -3,7 +3,7 @@ ghost use Rattle.lfg_model.specs.Places.{path_places};
 ghost use Rattle.lfg_model.specs.Resolve.{edge_at, string_at, string_taken, node_of, strings_of, walk_of, target_of};
 ghost use Rattle.lfg_context.specs.Sets.{AreMade, IsMade, IsGrown, HasSamePicks};
 ghost use Rattle.lfg_instant.specs.Annotations.{instance_of, arities, ArePicksMade, Appends};
-ghost use Rattle.lfg_instant.specs.Sizes.{string_count};
+ghost use Rattle.lfg_packed.specs.Sizes.{string_count};
 
 use crate::annotation::Instance;
 use crate::places::first_place;

@@ -217,7 +217,7 @@ pub(crate) fn schemata_at<'a>(grammar: &'a Grammar, key: &ChoiceKey) -> &'a [Sch
 /// # Errors
 ///
 /// For want of memory; and where a number is past 32 bits.
-fn place_numbers(alloc: Global, schemata: &[Schema<Paths>]) -> Result<Vec<u32>, AllocError>
+pub(crate) fn place_numbers(alloc: Global, schemata: &[Schema<Paths>]) -> Result<Vec<u32>, AllocError>
     ensures { IfOk result (λ it. it.items ≡ places (annotation_of schemata.now)) }
 {
     let numbers = place_arities(alloc, schemata)?;

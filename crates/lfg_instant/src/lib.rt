@@ -7,6 +7,7 @@ mod entries;
 mod facts;
 mod flow;
 mod junctions;
+mod literals;
 mod picks;
 mod places;
 mod sets;

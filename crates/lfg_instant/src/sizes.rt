@@ -1,7 +1,8 @@
 ghost use Rattle.std.specs.Prelude.{◌≡◌, ℕ, ◌-◌, ◌^◌, ◌++◌, IfOk, OnOk, length, map, min};
 ghost use Rattle.lfg_model.specs.Places.{path_places, val_places, places, schema_places};
 ghost use Rattle.lfg_model.specs.Terms.{annotation_of, schema_of};
-ghost use Rattle.lfg_instant.specs.Sizes.{string_count, val_count, literal_size, schema_size, in_32_bits};
+ghost use Rattle.lfg_packed.specs.Sizes.{string_count, val_strings, literal_size, schema_size};
+ghost use Rattle.lfg_instant.specs.Sizes.{in_32_bits};
 
 use lfg_terms::{Paths, Schema, Val};
 use std::alloc::{AllocError, Global};
@@ -22,7 +23,7 @@ fn string_count(path: &Option<Paths>) -> u64
 
 /// How many values the right side of an equation may take.
 fn val_count(val: &Val<Paths>) -> u64
-    ensures { result ≡ val_count val.now }
+    ensures { result ≡ val_strings val.now }
 {
     match val {
         Val::Des(des) => string_count(&des.path),

@@ -1,6 +1,5 @@
 use Rattle.std.proofs.Common.{rules}
 use Rattle.lfg_instant.proofs.StringLaws.{string_at-get_or}
-use Rattle.lfg_instant.proofs.WalkLaws.{branches_given}
 use Rattle.lfg_instant.proofs.designators.string_at.Goals as goal
 
 pub returns-in-Some : goal.returns-in-Some

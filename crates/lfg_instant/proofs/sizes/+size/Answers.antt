@@ -1,5 +1,5 @@
 use Rattle.std.proofs.Common.{ap, arith}
-use Rattle.lfg_instant.specs.Sizes.{schema_size, branches_size}
+use Rattle.lfg_packed.specs.Sizes.{schema_size, branches_size}
 use Rattle.lfg_model.specs.Terms.{branches_from}
 use Rattle.lfg_model.proofs.SchemaViews.{either_schema, maybe_schema}
 use Rattle.std.proofs.lemmas.List.{at_drop_all}

@@ -1,5 +1,5 @@
 use Rattle.std.proofs.Common.{◌≡◌, ◌+◌, ◌-◌, ◌^◌, ◌<◌, min, drop}
-use Rattle.lfg_instant.specs.Sizes.{literal_size, branches_size}
+use Rattle.lfg_packed.specs.Sizes.{literal_size, branches_size}
 use Rattle.lfg_model.specs.Terms.{annotation_of}
 use Rattle.lfg_model.specs.Terms.{branches_from}
 use Rattle.lfg_instant.proofs.sizes.+size.Given as goal

@@ -5,7 +5,7 @@ use Rattle.lfg_model.specs.Places.{path_places, val_places}
 use Rattle.lfg_model.specs.Resolve.{node_of, equation}
 use Rattle.lfg_context.proofs.Growing.{are_made_grown, grown_trans, same_picks_trans}
 use Rattle.lfg_instant.specs.Annotations.{instance_of}
-use Rattle.lfg_instant.specs.Sizes.{string_count, val_count}
+use Rattle.lfg_packed.specs.Sizes.{string_count, val_strings}
 use Rattle.lfg_instant.proofs.AppendLaws.{each_next, each_finished, each_done, drop_next, counted_more, counted_few}
 use Rattle.lfg_instant.proofs.MadeLaws.{picks_made_grown, picks_made_before, picks_made_behind}
 use Rattle.lfg_instant.proofs.PickLaws.{arities_before, arities_behind}
@@ -42,7 +42,7 @@ loop-at-preserved c =
     record {
       each = each_next (val_places c.args.right.now) (λ n ps. equation (instance_of c.args.self.now) n c.args.right.now ps c.args.index) c.cut.result.1.now items (drop i items) (drop (i + 1) items) c.at-item.result
           c.args.literals.now.items c.loop-at.literals.items c.push_equations.new.literals.items (drop_next items i c.at-item.result (omega arith) c.at-item.is) c.in_ok-push_equations.ensures.each c.loop-at.invariant.each;
-      count = counted_more (length c.args.literals.now.items) (length c.loop-at.literals.items) (length c.push_equations.new.literals.items) i (val_count c.args.right.now) c.loop-at.invariant.count c.in_ok-push_equations.ensures.count;
+      count = counted_more (length c.args.literals.now.items) (length c.loop-at.literals.items) (length c.push_equations.new.literals.items) i (val_strings c.args.right.now) c.loop-at.invariant.count c.in_ok-push_equations.ensures.count;
       made = c.push_equations.ensures.made;
       found_made = are_made_grown c.push_equations.ensures.grown c.loop-at.invariant.found_made;
       others_made = picks_made_grown c.push_equations.ensures.grown c.loop-at.invariant.others_made;

@@ -6,14 +6,14 @@ use Rattle.lfg_model.specs.Resolve.{node_of, equation}
 use Rattle.lfg_context.specs.Seen.{Set}
 use Rattle.lfg_context.specs.Sets.{AreMade, IsMade, IsGrown, HasSamePicks}
 use Rattle.lfg_instant.specs.Annotations.{instance_of, ArePicksMade}
-use Rattle.lfg_instant.specs.Sizes.{string_count, val_count}
+use Rattle.lfg_packed.specs.Sizes.{string_count, val_strings}
 use Rattle.lfg_instant.proofs.AppendLaws.{AppendsEach}
 use Rattle.lfg_instant.proofs.annotation.Instance.push_definition.Given as goal
 
 abbrev pub invariant-loop-at : goal.invariant-loop-at
 invariant-loop-at l = record {
   each : (new : List (Literal × Set)) → AppendsEach (val_places l.right) (λ n ps. equation (instance_of l.self) n l.right ps l.index) l.others (drop l.at-index l.at-items) l.literals.items new → AppendsEach (val_places l.right) (λ n ps. equation (instance_of l.self) n l.right ps l.index) l.others l.at-items l.fn.literals.items new;
-  count : length l.literals.items ≡ length l.fn.literals.items + l.at-index * val_count l.right;
+  count : length l.literals.items ≡ length l.fn.literals.items + l.at-index * val_strings l.right;
   made : AreMade l.contexts (λ x. x.1) l.literals.items;
   found_made : AreMade l.contexts (λ x. x.1) l.at-items;
   others_made : ArePicksMade l.contexts l.others;

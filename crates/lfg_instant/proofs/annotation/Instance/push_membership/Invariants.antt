@@ -6,7 +6,7 @@ use Rattle.lfg_model.specs.Resolve.{node_of, equation}
 use Rattle.lfg_context.specs.Seen.{Set}
 use Rattle.lfg_context.specs.Sets.{AreMade, IsMade, IsGrown, HasSamePicks}
 use Rattle.lfg_instant.specs.Annotations.{instance_of, ArePicksMade}
-use Rattle.lfg_instant.specs.Sizes.{string_count, val_count}
+use Rattle.lfg_packed.specs.Sizes.{string_count, val_strings}
 use Rattle.lfg_instant.proofs.AppendLaws.{AppendsEach}
 use Rattle.lfg_instant.proofs.annotation.Instance.push_membership.Given as goal
 
