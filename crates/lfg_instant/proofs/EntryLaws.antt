@@ -1,19 +1,17 @@
 -- The entries that whole derivations take are those of the edges of whole derivations.
-use Rattle.std.proofs.Common.{◌≡◌, ◌↔◌, ℕ, zero, suc, ◌+◌, ◌⊎◌, inl, inr, Some, None, List, [], ◌∷◌, ◌++◌, length, slice_get, refl, sym, ap, subst, ◌∙◌, arith}
+use Rattle.std.proofs.Common.{◌≡◌, ◌↔◌, ℕ, zero, suc, ◌+◌, ◌⊎◌, inl, inr, Some, List, [], ◌∷◌, ◌++◌, length, slice_get, refl, sym, ap, subst, ◌∙◌, arith}
 use Rattle.std.proofs.lemmas.List.{length-append}
 use Rattle.std.proofs.lemmas.Option.{same_Some}
 use Rattle.lfg_terms.specs.declared.node.Edge.{Edge}
 use Rattle.lfg_terms.specs.declared.grammar.Grammar.{Grammar}
 use Rattle.lfg_terms.specs.declared.tree.TokenForms.{TokenForms}
-use Rattle.lfg_model.specs.Kept.{Kept, KeptSpot, an_edge, a_word, a_step, an_end, item_pick, entry_pick, IsEntry, IsFillable}
-use Rattle.lfg_model.specs.Lists.{In, Lists}
+use Rattle.lfg_model.specs.Kept.{KeptSpot, an_edge, a_word, a_step, an_end, item_pick, entry_pick, IsEntry}
 use Rattle.lfg_model.specs.Loaded.{Loaded}
 use Rattle.lfg_model.specs.Spots.{Spot, AnEdge, AStep, AWord, APick, Stands}
 use Rattle.lfg_model.proofs.ChartLaws.{kept_edge_stands, Lists-same}
 use Rattle.lfg_model.proofs.Standing.{kept_is_standing}
-use Rattle.lfg_packed.specs.Words.{entry_cmp, AreEntries}
+use Rattle.lfg_packed.specs.Words.{AreEntries}
 use Rattle.lfg_packed.proofs.LoadedGives.{fillable}
-use Rattle.lfg_instant.specs.Sites.{AreEntryLists}
 use Rattle.lfg_instant.specs.Words.{AreEntriesOf}
 
 -- the entry of a kept spot is one
@@ -55,9 +53,6 @@ pub record AreFirstLists (g : Grammar) (s : List TokenForms) (edges : List Edge)
   pub beside : length lists ≡ n
   pub each : (i : ℕ) (e : Edge) (ks : List ℕ) → slice_get edges i ≡ Some e → slice_get lists i ≡ Some ks → AreEntries g s e ks
 
-pub lists_none : (g : Grammar) (s : List TokenForms) (edges : List Edge) → AreFirstLists g s edges 0 []
-lists_none g s edges = record { beside = refl; each = λ i e ks a b. (let never : None ≡ Some ks = b in absurd (cc)) }
-
 pub lists_more : (g : Grammar) (s : List TokenForms) (edges : List Edge) (n : ℕ) (lists new : List (List ℕ)) (edge : Edge) (list : List ℕ)
     → slice_get edges n ≡ Some edge → AreFirstLists g s edges n lists → AreEntries g s edge list → new ≡ lists ++ list ∷ [] → AreFirstLists g s edges (n + 1) new
 lists_more g s edges n lists new edge list there old are is = record {
@@ -70,6 +65,3 @@ lists_more g s edges n lists new edge list there old are is = record {
         subst (λ (f : Edge). P f ks) same (subst (λ (ls : List ℕ). P edge ls) (sym r.1) are)
   ];
 }
-
-pub lists_all : (g : Grammar) (s : List TokenForms) (edges : List Edge) (n : ℕ) (lists : List (List ℕ)) → n ≡ length edges → AreFirstLists g s edges n lists → AreEntryLists g s edges lists
-lists_all g s edges n lists e h = record { beside = h.beside ∙ e; each = h.each }

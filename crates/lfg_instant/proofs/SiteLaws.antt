@@ -1,10 +1,8 @@
 -- The items and entries of a sentence are those of its steps and words.
-use Rattle.std.proofs.Common.{◌≡◌, ◌↔◌, ℕ, zero, suc, ◌+◌, ◌<◌, ◌≤◌, ◌⊎◌, inl, inr, Option, Some, None, List, [], ◌∷◌, ◌++◌, length, map, slice_get, refl, sym, ap, subst, ◌∙◌, arith}
-use Rattle.std.specs.declared.cmp.Ordering.{Ordering}
+use Rattle.std.proofs.Common.{◌≡◌, ◌↔◌, ℕ, ◌+◌, ◌<◌, ◌⊎◌, inl, inr, Some, List, [], ◌∷◌, ◌++◌, length, map, slice_get, refl, sym, ap, subst, ◌∙◌, arith}
 use Rattle.std.specs.declared.cmp.Ordering.TheVariants.{Less}
-use Rattle.std.specs.List.{AllByRecursion}
 use Rattle.std.specs.List.Sorted.{IsStrictlySortedBy}
-use Rattle.std.proofs.lemmas.Option.{same_Some, slice_get_within}
+use Rattle.std.proofs.lemmas.Option.{slice_get_within}
 use Rattle.lfg_terms.specs.declared.node.Edge.{Edge}
 use Rattle.lfg_terms.specs.declared.literal.Site.{Site}
 use Rattle.lfg_terms.specs.declared.literal.Site.TheVariants as site
@@ -12,16 +10,13 @@ use Rattle.lfg_terms.specs.declared.grammar.Item.{Item}
 use Rattle.lfg_terms.specs.declared.grammar.Rule.{Rule}
 use Rattle.lfg_terms.specs.declared.grammar.Grammar.{Grammar}
 use Rattle.lfg_terms.specs.declared.tree.TokenForms.{TokenForms}
-use Rattle.lfg_chart.specs.Chart.{ChartForm}
 use Rattle.lfg_model.specs.declared.point.Point.{Point}
-use Rattle.lfg_model.specs.declared.point.Next.{Next}
 use Rattle.lfg_model.specs.declared.point.Next.TheVariants as next
-use Rattle.lfg_model.specs.Charts.{Fork, points_of, IsChart}
-use Rattle.lfg_model.specs.Derive.{rule_of, item_at}
-use Rattle.lfg_model.specs.Kept.{Kept, KeptSpot, Crosses, by_none, by_edge, an_edge, a_word, a_step, an_end, item_pick, entry_pick, IsEntry, IsFillable}
+use Rattle.lfg_model.specs.Charts.{Fork, IsChart}
+use Rattle.lfg_model.specs.Derive.{item_at}
+use Rattle.lfg_model.specs.Kept.{KeptSpot, Crosses, by_none, by_edge, an_edge, a_word, a_step, an_end, item_pick, entry_pick, IsFillable}
 use Rattle.lfg_model.specs.Lists.{In, here, later, Once, none, more, Lists}
 use Rattle.lfg_model.specs.Loaded.{Loaded}
-use Rattle.lfg_model.specs.Points.{next_cmp}
 use Rattle.lfg_model.specs.Spots.{point, Spot, AnEdge, AStep, AWord, APick, Stands}
 use Rattle.lfg_model.proofs.Ascending.{all_in, once_from_total}
 use Rattle.lfg_model.proofs.ChartLaws.{kept_edge_stands, kept_edge_of, Lists-same}
@@ -113,10 +108,13 @@ module _ (g : Grammar) (s : List TokenForms) (edges : List Edge) (forks : List F
       let fork = there.0 in
       let at = In_get there.1 in
       let stands : Stands g s (AStep fork.0 (next.Item occ to)) = subst (λ (z : Point). Stands g s (AStep z (next.Item occ to))) (sym there.2) st in
-      let way = In_get ((((chart.all_nexts fork there.1)).exact (next.Item occ to)).1 stands) in
-      (record { place = at.0; point = fork.0; number = way.0; of = length fork.1; occ = occ; to = to },
-       record { ways = fork.1; listed = at.1; taken = way.1; many = refl },
-       there.2, refl, refl)
+      let way = In_get ((((chart.all_nexts fork there.1)).exact (next.Item occ to)).1 stands) in (
+        record { place = at.0; point = fork.0; number = way.0; of = length fork.1; occ = occ; to = to },
+        record { ways = fork.1; listed = at.1; taken = way.1; many = refl },
+        there.2,
+        refl,
+        refl,
+      )
 
   -- and its words, where the entries of whole derivations stand beside its edges
   module _ (fill : IsFillable g) (lists : List (List ℕ)) (are : AreEntryLists g s edges lists) where
@@ -128,10 +126,12 @@ module _ (g : Grammar) (s : List TokenForms) (edges : List Edge) (forks : List F
         let kept = kept_edge_of g s (AWord e k) ((kept_is_standing g s fill (AWord e k)).1 st) in
         let at = In_get ((chart.all_edges.exact e).1 ((kept_edge_stands g s fill e).0 kept)) in
         let row = get_below lists at.0 (let w = slice_get_within edges at.0 e at.1 in omega (arith, w, are.beside)) in
-        let way = In_get (((are.each at.0 e row.0 at.1 row.1).exact k).1 st) in
-        (record { place = at.0; edge = e; number = way.0; of = length row.0; entry = k },
-         record { entries = row.0; listed = at.1; beside = row.1; taken = way.1; many = refl },
-         refl, refl)
+        let way = In_get (((are.each at.0 e row.0 at.1 row.1).exact k).1 st) in (
+          record { place = at.0; edge = e; number = way.0; of = length row.0; entry = k },
+          record { entries = row.0; listed = at.1; beside = row.1; taken = way.1; many = refl },
+          refl,
+          refl,
+        )
 
 -- ---- the keys of steps and words are those of all items and entries
 
@@ -171,11 +171,11 @@ pub keys_listed : (g : Grammar) (s : List TokenForms) (edges : List Edge) (forks
     → (mid all set : List ChoiceKey) → Collects [] mid (IsKeyOf g s steps) → Collects mid all (IsWordKeyOf g s words) → Lists key_cmp (λ k. In k all) set → AreSiteKeys g s set
 keys_listed g s edges forks lists steps words loaded chart are of_steps of_words mid all set first second listed =
     let both : Collects [] all (λ k. IsKeyOf g s steps k ⊎ IsWordKeyOf g s words k) =
-      collects_trans [] mid all (IsKeyOf g s steps) (IsWordKeyOf g s words) (λ k. IsKeyOf g s steps k ⊎ IsWordKeyOf g s words k) first second (λ k. ((λ h. h), (λ h. h))) in
+    collects_trans [] mid all (IsKeyOf g s steps) (IsWordKeyOf g s words) (λ k. IsKeyOf g s steps k ⊎ IsWordKeyOf g s words k) first second (λ k. ((λ h. h), (λ h. h))) in
     Lists-same (λ k. (
-      let a = collected all (λ k. IsKeyOf g s steps k ⊎ IsWordKeyOf g s words k) both k in
-      let b = keys_are g s edges forks lists steps words loaded chart are of_steps of_words k in
-      ((λ h. b.0 (a.0 h)), (λ h. a.1 (b.1 h)))
+    let a = collected all (λ k. IsKeyOf g s steps k ⊎ IsWordKeyOf g s words k) both k in
+    let b = keys_are g s edges forks lists steps words loaded chart are of_steps of_words k in
+    ((λ h. b.0 (a.0 h)), (λ h. a.1 (b.1 h)))
     )) listed
 
 -- one key more
@@ -198,11 +198,11 @@ unfolding IsStrictlySortedBy
 once_keys g s [] up of = none
 once_keys g s (k ∷ keys) up of = more
     (λ i.
-        let r = In_from_map site_of_key keys i in
-        let same : r.0 ≡ k = of r.0 (later r.1) ∙ ap (site_key g s) r.2 ∙ sym (of k here) in
-        let less : key_cmp k r.0 ≡ Less = all_in (λ x. key_cmp k x ≡ Less) up.0 r.1 in
-        let self : key_cmp k k ≡ Less = subst (λ (x : ChoiceKey). key_cmp k x ≡ Less) same less in
-        never k self)
+    let r = In_from_map site_of_key keys i in
+    let same : r.0 ≡ k = of r.0 (later r.1) ∙ ap (site_key g s) r.2 ∙ sym (of k here) in
+    let less : key_cmp k r.0 ≡ Less = all_in (λ x. key_cmp k x ≡ Less) up.0 r.1 in
+    let self : key_cmp k k ≡ Less = subst (λ (x : ChoiceKey). key_cmp k x ≡ Less) same less in
+    never k self)
     (once_keys g s keys up.1 (λ key i. of key (later i)))
   where
     never : (x : ChoiceKey) → key_cmp x x ≡ Less → ⊥

@@ -1,5 +1,5 @@
 -- The steps and the words of a chart, one place after the other.
-use Rattle.std.proofs.Common.{◌≡◌, ◌↔◌, ℕ, ◌<◌, ◌≤◌, Some, List, [], ◌∷◌, length, slice_get, refl, sym, ap, subst, ◌∙◌, arith}
+use Rattle.std.proofs.Common.{◌≡◌, ◌↔◌, ℕ, ◌<◌, ◌≤◌, Some, List, length, slice_get, refl, sym, ap, subst, ◌∙◌, arith}
 use Rattle.std.proofs.lemmas.Option.{same_Some, slice_get_within}
 use Rattle.lfg_terms.specs.declared.node.Edge.{Edge}
 use Rattle.lfg_model.specs.declared.point.Point.{Point}
@@ -37,12 +37,15 @@ module _ (place : ℕ) (point : Point) (ways : List Next) where
         let occs : st.occ ≡ occ = ap item_of same in
         let ends : st.to ≡ to = ap end_of same in
         λ i. record { place = h.0.there i; point = h.0.at i; number = h.1 i; of = h.0.many i; occ = occs i; to = ends i }),
-    (λ e. (record {
-      there = ap (λ (s : Step). s.place) e;
-      at = ap (λ (s : Step). s.point) e;
-      taken = rw e there;
-      many = ap (λ (s : Step). s.of) e;
-    }, ap (λ (s : Step). s.number) e)),
+    (λ e. (
+      record {
+        there = ap (λ (s : Step). s.place) e;
+        at = ap (λ (s : Step). s.point) e;
+        taken = rw e there;
+        many = ap (λ (s : Step). s.of) e;
+      },
+      ap (λ (s : Step). s.number) e,
+    )),
   )
 
   -- only items have steps
@@ -95,12 +98,15 @@ module _ (place : ℕ) (edge : Edge) (entries : List ℕ) where
         let at : slice_get entries m ≡ Some w.entry = subst (λ (n : ℕ). slice_get entries n ≡ Some w.entry) h.1 h.0.taken in
         let same : w.entry ≡ entry = one_at entries m w.entry entry at there in
         λ i. record { place = h.0.there i; edge = h.0.at i; number = h.1 i; of = h.0.many i; entry = same i }),
-    (λ e. (record {
-      there = ap (λ (s : Word). s.place) e;
-      at = ap (λ (s : Word). s.edge) e;
-      taken = rw e there;
-      many = ap (λ (s : Word). s.of) e;
-    }, ap (λ (s : Word). s.number) e)),
+    (λ e. (
+      record {
+        there = ap (λ (s : Word). s.place) e;
+        at = ap (λ (s : Word). s.edge) e;
+        taken = rw e there;
+        many = ap (λ (s : Word). s.of) e;
+      },
+      ap (λ (s : Word). s.number) e,
+    )),
   )
 
   pub words_by : (n : ℕ) → length entries ≤ n → (w : Word) → ((m : ℕ) × (m < n) × WordBy m w) ↔ IsWordAt place edge entries w

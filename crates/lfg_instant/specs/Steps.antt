@@ -1,5 +1,5 @@
 -- The ways in which derivations go on over items, and the entries that they take, one by one.
-use Rattle.std.specs.Prelude.{◌≡◌, ◌↔◌, ℕ, Some, List, [], ◌∷◌, length, slice_get}
+use Rattle.std.specs.Prelude.{◌≡◌, ◌↔◌, ℕ, Some, List, length, slice_get}
 use Rattle.lfg_terms.specs.declared.node.Edge.{Edge}
 use Rattle.lfg_model.specs.declared.point.Point.{Point}
 use Rattle.lfg_model.specs.declared.point.Next.{Next}

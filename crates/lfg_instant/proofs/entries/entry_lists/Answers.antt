@@ -1,4 +1,4 @@
-use Rattle.std.proofs.Common.{◌≡◌, Some, slice_get, length}
+use Rattle.std.proofs.Common.{◌≡◌, Some, slice_get}
 use Rattle.lfg_packed.proofs.Listing.{get_In}
 use Rattle.lfg_instant.proofs.CollectLaws.{place_is}
 use Rattle.lfg_instant.proofs.EntryLaws.{lists_more}

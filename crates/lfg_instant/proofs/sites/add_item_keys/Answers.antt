@@ -1,7 +1,6 @@
-use Rattle.std.proofs.Common.{arith, ◌≡◌}
-use Rattle.lfg_packed.specs.declared.key.ChoiceKey.{ChoiceKey}
+use Rattle.std.proofs.Common.{arith}
 use Rattle.lfg_instant.specs.Sites.{IsKeyOf, item_of, site_key}
-use Rattle.lfg_instant.proofs.CollectLaws.{MadeBy, counted_none, counted_more, collects_one, collects_along, made_all, place_is}
+use Rattle.lfg_instant.proofs.CollectLaws.{MadeBy, counted_none, collects_along, made_all, place_is}
 use Rattle.lfg_instant.proofs.SiteLaws.{one_key}
 use Rattle.lfg_instant.proofs.sites.add_item_keys.Goals as goal
 

@@ -1,4 +1,4 @@
-use Rattle.std.proofs.Common.{◌≡◌, [], List, subst}
+use Rattle.std.proofs.Common.{[], List, subst}
 use Rattle.lfg_packed.specs.declared.key.ChoiceKey.{ChoiceKey}
 use Rattle.lfg_instant.specs.Collects.{Collects}
 use Rattle.lfg_instant.specs.Sites.{IsKeyOf}

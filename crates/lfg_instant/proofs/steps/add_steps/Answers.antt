@@ -1,4 +1,4 @@
-use Rattle.std.proofs.Common.{arith, ◌≡◌, ◌<◌, ℕ, Some, slice_get, length, ap, ◌∙◌}
+use Rattle.std.proofs.Common.{arith, ◌≡◌, Some, slice_get, length, ap, ◌∙◌}
 use Rattle.std.proofs.lemmas.Option.{slice_get-get_or}
 use Rattle.lfg_model.specs.declared.point.Next.{Next}
 use Rattle.lfg_model.specs.declared.point.Next.TheVariants as next

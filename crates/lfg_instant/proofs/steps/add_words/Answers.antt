@@ -1,8 +1,8 @@
-use Rattle.std.proofs.Common.{arith, ◌≡◌, ◌<◌, ℕ, Some, slice_get, get_or, length, refl}
+use Rattle.std.proofs.Common.{arith, ◌≡◌, get_or, length}
 use Rattle.std.proofs.lemmas.Option.{slice_get-get_or}
 use Rattle.lfg_instant.specs.declared.steps.Word.{Word}
 use Rattle.lfg_instant.specs.Steps.{IsWordAt}
-use Rattle.lfg_instant.proofs.CollectLaws.{counted_none, counted_more, collects_one, collects_along, place_is}
+use Rattle.lfg_instant.proofs.CollectLaws.{counted_none, counted_more, collects_one, collects_along}
 use Rattle.lfg_instant.proofs.StepLaws.{WordBy, one_word, words_by}
 use Rattle.lfg_instant.proofs.steps.add_words.Goals as goal
 

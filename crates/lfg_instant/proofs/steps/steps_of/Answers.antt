@@ -1,11 +1,9 @@
-use Rattle.std.proofs.Common.{arith, ◌≡◌, ◌<◌, ◌≤◌, ℕ, Some, [], slice_get, length, ap, sym, subst, ◌∙◌}
+use Rattle.std.proofs.Common.{arith, ◌≡◌, Some, [], slice_get, length, ap, sym, subst, ◌∙◌}
 use Rattle.std.proofs.lemmas.Option.{same_Some, slice_get-map}
 use Rattle.std.proofs.lemmas.List.{length-map}
 use Rattle.std.specs.Option.{option_map}
 use Rattle.lfg_model.specs.declared.point.Point.{Point}
-use Rattle.lfg_chart.specs.Chart.{ChartForm}
 use Rattle.lfg_model.specs.Charts.{Fork, points_of}
-use Rattle.lfg_instant.specs.declared.steps.Step.{Step}
 use Rattle.lfg_instant.specs.Steps.{IsStepAt, IsStepOf}
 use Rattle.lfg_instant.proofs.CollectLaws.{counted_none, counted_more, collects_along, collected, place_is}
 use Rattle.lfg_instant.proofs.StepLaws.{StepAt, at_point, steps_at}
@@ -32,5 +30,5 @@ returns c =
     let many : length c.points-points.result.now ≡ length c.args.chart.now.forks = ap (λ ps. length ps) c.points-points.ensures ∙ length-map c.args.chart.now.forks (λ (f : Fork). f.0) in
     record {
       exact = collected c.loop-place.steps.items _ (collects_along [] c.loop-place.steps.items _ (IsStepOf c.args.chart.now.forks)
-        (λ st. steps_at c.args.chart.now.forks c.loop-place.place (omega (arith, c.loop-place-test.false, many)) st) c.loop-place.invariant);
+          (λ st. steps_at c.args.chart.now.forks c.loop-place.place (omega (arith, c.loop-place-test.false, many)) st) c.loop-place.invariant);
     }

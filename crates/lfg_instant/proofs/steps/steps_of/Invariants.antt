@@ -1,5 +1,4 @@
 use Rattle.std.proofs.Common.{ℕ, ◌<◌, []}
-use Rattle.lfg_chart.specs.Chart.{ChartForm}
 use Rattle.lfg_instant.specs.Collects.{Collects}
 use Rattle.lfg_instant.proofs.StepLaws.{StepAt}
 use Rattle.lfg_instant.proofs.steps.steps_of.Given as goal

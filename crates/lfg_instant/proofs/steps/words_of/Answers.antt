@@ -1,5 +1,4 @@
-use Rattle.std.proofs.Common.{arith, ◌≡◌, ◌<◌, ◌≤◌, ℕ, Some, [], slice_get, length, ap, sym, ◌∙◌}
-use Rattle.lfg_instant.specs.declared.steps.Word.{Word}
+use Rattle.std.proofs.Common.{arith, Some, [], ap, sym, ◌∙◌}
 use Rattle.lfg_instant.specs.Steps.{IsWordAt, IsWordOf}
 use Rattle.lfg_instant.proofs.CollectLaws.{counted_none, counted_more, collects_along, collected, place_is}
 use Rattle.lfg_instant.proofs.StepLaws.{WordAt, at_edge, words_at}
@@ -19,5 +18,5 @@ loop-place-preserved c =
 pub returns : goal.returns
 returns c = record {
   exact = collected c.loop-place.words.items _ (collects_along [] c.loop-place.words.items _ (IsWordOf c.args.edges.now c.args.lists.now)
-    (λ w. words_at c.args.edges.now c.args.lists.now c.loop-place.place (omega (arith, c.loop-place-test.false)) w) c.loop-place.invariant);
+      (λ w. words_at c.args.edges.now c.args.lists.now c.loop-place.place (omega (arith, c.loop-place-test.false)) w) c.loop-place.invariant);
 }

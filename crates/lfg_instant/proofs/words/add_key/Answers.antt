@@ -1,4 +1,4 @@
-use Rattle.std.proofs.Common.{◌≡◌, ◌∙◌, arith}
+use Rattle.std.proofs.Common.{◌≡◌, arith}
 use Rattle.lfg_chart.proofs.CellLaws.{true_is}
 use Rattle.lfg_packed.specs.Words.{form_place}
 use Rattle.lfg_instant.proofs.CollectLaws.{collects_none}
