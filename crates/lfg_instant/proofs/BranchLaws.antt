@@ -1,12 +1,13 @@
 -- The numbered places of a disjunction.
-use Rattle.std.proofs.Common.{◌≡◌, ℕ, zero, suc, ◌+◌, List, [], ◌∷◌, ◌++◌, length, map, refl, sym, ap, ◌∙◌}
+use Rattle.std.proofs.Common.{◌≡◌, ℕ, zero, suc, ◌+◌, ◌-◌, ◌<◌, drop, arith, List, [], ◌∷◌, ◌++◌, length, map, refl, sym, ap, ◌∙◌}
 use Rattle.std.specs.declared.vec.Vec.{Vec}
 use Rattle.std.specs.Global.{Global}
-use Rattle.std.proofs.lemmas.List.{append-nil, append_assoc}
+use Rattle.std.proofs.lemmas.List.{append-nil, append_assoc, length-drop}
+use Rattle.lfg_context.specs.Seen.{Set}
 use Rattle.lfg_terms.specs.declared.grammar.Schema as declared
-use Rattle.lfg_model.specs.Places.{schema_places, branch_count, branch_places}
+use Rattle.lfg_model.specs.Places.{places, schema_places, branch_count, branch_places}
 use Rattle.lfg_model.specs.Resolve.{Instance, branch_literals}
-use Rattle.lfg_model.specs.Terms.{Paths, Schema, either, Branches, no_branch, or_branch, branches_from}
+use Rattle.lfg_model.specs.Terms.{Paths, Schema, either, maybe, Annotation, Branches, no_branch, or_branch, branches_from}
 use Rattle.lfg_terms.specs.declared.literal.Literal.{Literal}
 use Rattle.lfg_instant.specs.Sizes.{in_32_bits}
 
@@ -29,3 +30,17 @@ either_arities s all old first now left n e m f kept done =
     sym (append-nil now) ∙ ap (λ xs. now ++ xs) (sym done) ∙ kept ∙ ap (λ xs. xs ++ rest) f ∙ append_assoc old (n ∷ []) rest
     ∙ ap (λ v. old ++ v ∷ rest) (m ∙ ap in_32_bits (sym (branch_count-from all)))
     ∙ ap (λ x. old ++ map in_32_bits (schema_places x)) (sym e)
+
+-- each branch that is left has its alternative
+pub alternative_there : (branches : List (Vec (declared.Schema Paths) Global)) (alternatives : List Set) (i : ℕ) → length (drop i alternatives) ≡ branch_count (branches_from (drop i branches)) → i < length branches
+    → i < length alternatives
+alternative_there branches alternatives i few h =
+    let left = branch_count-from (drop i branches) in
+    let a = length-drop i alternatives in
+    let b = length-drop i branches in omega (arith, few, h, left, a, b)
+
+-- those of an option
+pub maybe_arities : (s : Schema) (inside : Annotation) (old first now : List ℕ) → s ≡ maybe inside → first ≡ old ++ 2 ∷ [] → now ≡ first ++ map in_32_bits (places inside)
+    → now ≡ old ++ map in_32_bits (schema_places s)
+maybe_arities s inside old first now e f kept =
+    kept ∙ ap (λ xs. xs ++ map in_32_bits (places inside)) f ∙ append_assoc old (2 ∷ []) (map in_32_bits (places inside)) ∙ ap (λ x. old ++ map in_32_bits (schema_places x)) (sym e)

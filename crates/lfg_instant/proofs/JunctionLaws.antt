@@ -38,7 +38,7 @@ pub fork_same : (forks : List Fork) (m : ℕ) (fork : Fork) (key : ChoiceKey) (m
     → (j : Junction) → IsForkJunction forks m j ↔ IsJunction key many j
 fork_same forks m fork key many at k n j = (
   (λ h. (let e : h.0 ≡ fork = same_Some h.0 fork (sym h.1 ∙ at) in
-    along (next_key h.0.0) key (length h.0.1) many (ap (λ (z : Fork). next_key z.0) e ∙ sym k) (ap (λ (z : Fork). length z.1) e ∙ sym n) h.2)),
+      along (next_key h.0.0) key (length h.0.1) many (ap (λ (z : Fork). next_key z.0) e ∙ sym k) (ap (λ (z : Fork). length z.1) e ∙ sym n) h.2)),
   (λ h. (fork, at, along key (next_key fork.0) many (length fork.1) k n h)),
 )
 
@@ -60,7 +60,7 @@ pub site_same : (g : Grammar) (keys : List ChoiceKey) (m : ℕ) (k : ChoiceKey) 
     → (j : Junction) → IsSiteJunction g keys m j ↔ IsPlaceJunction k ns j
 site_same g keys m k ns at e j = (
   (λ h. (let P : List ℕ → Type 0 = λ z. IsPlaceJunction k z j in
-    let Q : ChoiceKey → Type 0 = λ z. IsPlaceJunction z (places (annotation_at g (site_of_key z))) j in
-    subst P (sym e) (subst Q (same_Some h.0 k (sym h.1 ∙ at)) h.2))),
+      let Q : ChoiceKey → Type 0 = λ z. IsPlaceJunction z (places (annotation_at g (site_of_key z))) j in
+      subst P (sym e) (subst Q (same_Some h.0 k (sym h.1 ∙ at)) h.2))),
   (λ h. (let P : List ℕ → Type 0 = λ z. IsPlaceJunction k z j in (k, at, subst P e h))),
 )

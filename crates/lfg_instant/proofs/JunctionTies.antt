@@ -1,11 +1,10 @@
 -- Junctions that compare as equal are equal.
-use Rattle.std.proofs.Common.{◌≡◌, ◌↔◌, ℕ, IsTrue, true, refl, ◌∙◌, ap, subst}
+use Rattle.std.proofs.Common.{◌≡◌, ◌↔◌, IsTrue, true, refl, subst}
 use Rattle.std.specs.declared.cmp.Ordering.{Ordering}
 use Rattle.std.specs.declared.cmp.Ordering.TheVariants.{Less, Equal, Greater}
 use Rattle.std.specs.Ordering.{nat_cmp, ordering_then, is_eq, eq_by_cmp}
 use Rattle.std.proofs.lemmas.Cmp.{eq_by_cmp_equiv}
 use Rattle.lfg_terms.proofs.Ties.{nat_ties}
-use Rattle.lfg_packed.specs.declared.key.ChoiceKey.{ChoiceKey}
 use Rattle.lfg_packed.specs.ChoicePoints.{key_cmp}
 use Rattle.lfg_packed.proofs.KeyTies.{key_ties}
 use Rattle.lfg_instant.specs.declared.junctions.Junction.{Junction}

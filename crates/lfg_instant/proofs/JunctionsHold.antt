@@ -1,12 +1,12 @@
 -- The junctions that are listed are the choices of the sentence.
-use Rattle.std.proofs.Common.{◌≡◌, ◌↔◌, ◌⊎◌, inl, inr, ℕ, zero, suc, ◌<◌, ◌≤◌, Some, List, [], ◌∷◌, map, length, slice_get, refl, ap, sym, subst, ◌∙◌, arith}
+use Rattle.std.proofs.Common.{◌≡◌, ◌⊎◌, inl, inr, ℕ, ◌<◌, ◌≤◌, Some, List, [], ◌∷◌, map, length, slice_get, refl, ap, sym, subst, ◌∙◌, arith}
 use Rattle.std.specs.declared.cmp.Ordering.{Ordering}
 use Rattle.std.specs.declared.cmp.Ordering.TheVariants.{Less, Equal, Greater}
 use Rattle.std.specs.Ordering.{nat_cmp, ordering_then, on}
 use Rattle.std.specs.List.{AllByRecursion}
 use Rattle.std.specs.List.Sorted.{IsStrictlySortedBy}
 use Rattle.std.proofs.lemmas.Cmp.{nat_cmp_total}
-use Rattle.std.proofs.lemmas.Option.{same_Some, slice_get_within}
+use Rattle.std.proofs.lemmas.Option.{slice_get_within}
 use Rattle.lfg_terms.specs.declared.node.Edge.{Edge}
 use Rattle.lfg_terms.specs.declared.literal.Site.{Site}
 use Rattle.lfg_terms.specs.declared.literal.Site.TheVariants as site
@@ -14,23 +14,22 @@ use Rattle.lfg_terms.specs.declared.grammar.Grammar.{Grammar}
 use Rattle.lfg_terms.specs.declared.tree.TokenForms.{TokenForms}
 use Rattle.lfg_model.specs.declared.point.Point.{Point}
 use Rattle.lfg_model.specs.declared.point.Next.{Next}
-use Rattle.lfg_model.specs.Charts.{Fork, points_of, IsChart}
+use Rattle.lfg_model.specs.Charts.{Fork, IsChart}
 use Rattle.lfg_model.specs.Lists.{In, here, later, Lists}
 use Rattle.lfg_model.specs.Loaded.{Loaded}
 use Rattle.lfg_model.specs.Places.{places}
 use Rattle.lfg_model.proofs.Ascending.{once_from_total}
 use Rattle.lfg_model.proofs.ListLaws.{In-nil, In-map, In_from_map}
 use Rattle.lfg_packed.specs.declared.key.ChoiceKey.{ChoiceKey}
-use Rattle.lfg_packed.specs.Words.{AreEntries}
 use Rattle.lfg_packed.specs.ChoicePoints.{ChoicePoint, NextAt, EntryAt, BranchAt, key_of, key_cmp, choice_cmp}
-use Rattle.lfg_packed.specs.Choices.{IsSite, annotation_at, AreNexts, HasAlternatives, PlacedChoice, AreChoices}
+use Rattle.lfg_packed.specs.Choices.{annotation_at, AreNexts, HasAlternatives, PlacedChoice}
 use Rattle.lfg_packed.proofs.KeyTies.{key_ties}
 use Rattle.lfg_packed.proofs.Listing.{In_get, get_In, get_below}
 use Rattle.lfg_packed.proofs.Selecting.{one_entries, one_nexts, one_number, word_edge}
 use Rattle.lfg_instant.specs.declared.junctions.Junction.{Junction}
 use Rattle.lfg_instant.specs.Collects.{Collects}
 use Rattle.lfg_instant.specs.JunctionOrder.{junction_cmp}
-use Rattle.lfg_instant.specs.Junctions.{IsJunction, next_key, entry_key, at_place, IsNextJunction, IsEntryJunction, IsBranchJunction, place_of_key, placed, AreJunctions}
+use Rattle.lfg_instant.specs.Junctions.{IsJunction, next_key, at_place, IsNextJunction, IsEntryJunction, IsBranchJunction, place_of_key, placed, AreJunctions}
 use Rattle.lfg_instant.specs.Sites.{AreEntryLists, site_key, site_of_key, AreSiteKeys}
 
 module _ (g : Grammar) (s : List TokenForms) where
@@ -70,7 +69,7 @@ module _ (g : Grammar) (s : List TokenForms) where
   at_point x n = record { key = key_of g s x; alternatives = n }
 
   module _ (loaded : Loaded g) (edges : List Edge) (forks : List Fork) (chart : IsChart g s edges forks) (lists : List (List ℕ)) (entries : AreEntryLists g s edges lists)
-           (keys : List ChoiceKey) (sites : AreSiteKeys g s keys) where
+      (keys : List ChoiceKey) (sites : AreSiteKeys g s keys) where
     good_next : (j : Junction) → IsNextJunction forks j → IsGood j
     good_next j h =
         let fork : Fork = h.2.0 in
@@ -115,11 +114,19 @@ module _ (g : Grammar) (s : List TokenForms) where
         let at = In_get r.1 in
         let P : Point → Type 0 = λ z. AreNexts g s z fork.1 in
         let same : has.0 ≡ fork.1 = one_nexts g s p has.0 fork.1 has.1 (subst P r.2 (chart.all_nexts fork r.1)) in
-        inl (at.0, slice_get_within forks at.0 fork at.1, (fork, at.1, record {
-          two = (let Q : ℕ → Type 0 = λ z. 2 ≤ z in subst Q (has.2 ∙ ap (λ (z : List Next). length z) same) two);
-          key_is = ap next_key (sym r.2);
-          many_is = has.2 ∙ ap (λ (z : List Next). length z) same;
-        }))
+        inl (
+          at.0,
+          slice_get_within forks at.0 fork at.1,
+          (
+            fork,
+            at.1,
+            record {
+              two = (let Q : ℕ → Type 0 = λ z. 2 ≤ z in subst Q (has.2 ∙ ap (λ (z : List Next). length z) same) two);
+              key_is = ap next_key (sym r.2);
+              many_is = has.2 ∙ ap (λ (z : List Next). length z) same;
+            },
+          ),
+        )
     each_there (EntryAt e) n has two =
         let f = first_of has.0 n has.2 two in
         let at = In_get ((chart.all_edges.exact e).1 (word_edge g s loaded e f.0 ((has.1.exact f.0).0 f.1))) in
@@ -127,21 +134,47 @@ module _ (g : Grammar) (s : List TokenForms) where
         let beside = get_below lists at.0 (let b = entries.beside in omega (arith, l, b)) in
         let ks : List ℕ = beside.0 in
         let same : has.0 ≡ ks = one_entries g s e has.0 ks has.1 (entries.each at.0 e ks at.1 beside.1) in
-        inr (inl (at.0, l, (e, ks, at.1, beside.1, record {
-          two = (let Q : ℕ → Type 0 = λ z. 2 ≤ z in subst Q (has.2 ∙ ap (λ (z : List ℕ). length z) same) two);
-          key_is = refl;
-          many_is = has.2 ∙ ap (λ (z : List ℕ). length z) same;
-        })))
+        inr (inl (
+          at.0,
+          l,
+          (
+            e,
+            ks,
+            at.1,
+            beside.1,
+            record {
+              two = (let Q : ℕ → Type 0 = λ z. 2 ≤ z in subst Q (has.2 ∙ ap (λ (z : List ℕ). length z) same) two);
+              key_is = refl;
+              many_is = has.2 ∙ ap (λ (z : List ℕ). length z) same;
+            },
+          ),
+        ))
     each_there (BranchAt at place) n has two =
         let k : ChoiceKey = site_key g s at in
         let m = In_get ((sites.exact k).1 (at, has.0, refl)) in
         let P : Site → Type 0 = λ z. slice_get (places (annotation_at g z)) place ≡ Some n in
         let there : slice_get (places (annotation_at g (site_of_key k))) place ≡ Some n = subst P (sym (site_of at)) has.1 in
-        inr (inr (m.0, slice_get_within keys m.0 k m.1, (k, m.1, (place, slice_get_within (places (annotation_at g (site_of_key k))) place n there, (n, there, record {
-          two = two;
-          key_is = sym (branch_key at place);
-          many_is = refl;
-        })))))
+        inr (inr (
+          m.0,
+          slice_get_within keys m.0 k m.1,
+          (
+            k,
+            m.1,
+            (
+              place,
+              slice_get_within (places (annotation_at g (site_of_key k))) place n there,
+              (
+                n,
+                there,
+                record {
+                  two = two;
+                  key_is = sym (branch_key at place);
+                  many_is = refl;
+                },
+              ),
+            ),
+          ),
+        ))
 
   -- two junctions that ascend have keys that ascend
   by_keys : (o p : Ordering) → ordering_then o p ≡ Less → (o ≡ Less) ⊎ ((o ≡ Equal) × (p ≡ Less))
@@ -186,13 +219,13 @@ module _ (g : Grammar) (s : List TokenForms) where
       ascends = ascending js good ascends;
       exact = λ c. (
         (λ h. (let r = In_from_map placed js h in
-          let P : PlacedChoice → Type 0 = λ z. HasAlternatives g s z.at z.alternatives × (2 ≤ z.alternatives) in
-          let b = good r.0 r.1 in
-          subst P r.2 (b.has, b.two))),
+            let P : PlacedChoice → Type 0 = λ z. HasAlternatives g s z.at z.alternatives × (2 ≤ z.alternatives) in
+            let b = good r.0 r.1 in
+            subst P r.2 (b.has, b.two))),
         (λ h. (let i : In (placed (at_point c.at c.alternatives)) (map placed js) = In-map placed (each c.at c.alternatives h.0 h.1) in
-          let at : place_of_key (key_of g s c.at) ≡ c.at = place_of c.at in
-          let P : ChoicePoint → Type 0 = λ z. In {X = PlacedChoice} (record { at = z; alternatives = c.alternatives }) (map placed js) in
-          subst P at i)),
+            let at : place_of_key (key_of g s c.at) ≡ c.at = place_of c.at in
+            let P : ChoicePoint → Type 0 = λ z. In {X = PlacedChoice} (record { at = z; alternatives = c.alternatives }) (map placed js) in
+            subst P at i)),
       );
     };
     keys = λ j h. (good j h).key;
@@ -205,9 +238,9 @@ pub listed_are : (g : Grammar) (s : List TokenForms) (loaded : Loaded g) (edges 
     → Lists junction_cmp (λ j. In j three) js → AreJunctions g s js
 listed_are g s loaded edges forks chart lists entries keys sites old one two three js empty f h k l =
     are_junctions g s js
-      (λ j i. all_good g s loaded edges forks chart lists entries keys sites j (kinds j ((l.exact j).0 i)))
-      (λ x n has two. (l.exact (record { key = key_of g s x; alternatives = n })).1 (there (record { key = key_of g s x; alternatives = n }) (each_there g s loaded edges forks chart lists entries keys sites x n has two)))
-      l.ascends
+    (λ j i. all_good g s loaded edges forks chart lists entries keys sites j (kinds j ((l.exact j).0 i)))
+    (λ x n has two. (l.exact (record { key = key_of g s x; alternatives = n })).1 (there (record { key = key_of g s x; alternatives = n }) (each_there g s loaded edges forks chart lists entries keys sites x n has two)))
+    l.ascends
   where
     kinds : (j : Junction) → In j three → IsNextJunction forks j ⊎ (IsEntryJunction edges lists j ⊎ IsBranchJunction g keys j)
     kinds j i = elim ((k.exact j).0 i) [

@@ -1,10 +1,10 @@
 -- What an assignment takes at a place with a choice.
-use Rattle.std.proofs.Common.{◌≡◌, ◌⊎◌, inl, inr, ℕ, zero, suc, ◌+◌, ◌<◌, ◌≤◌, ◌==◌, Bool, true, false, cond, Some, None, List, [], ◌∷◌, map, length, slice_get, refl, ap, sym, subst, ◌∙◌, arith}
-use Rattle.std.specs.Option.{option_map, unwrap_or}
-use Rattle.std.specs.Ordering.{eq_by_cmp, is_eq, on}
-use Rattle.std.specs.declared.cmp.Ordering.TheVariants.{Less, Equal, Greater}
+use Rattle.std.proofs.Common.{◌≡◌, ℕ, zero, suc, ◌+◌, ◌<◌, ◌≤◌, ◌==◌, true, false, cond, Some, List, [], ◌∷◌, map, length, slice_get, refl, ap, sym, subst, ◌∙◌, arith}
+use Rattle.std.specs.Option.{option_map}
+use Rattle.std.specs.Ordering.{eq_by_cmp, is_eq, nat_cmp, on, ordering_then}
+use Rattle.std.specs.declared.cmp.Ordering.TheVariants.{Less}
+use Rattle.std.specs.List.{AllByRecursion}
 use Rattle.std.specs.List.Sorted.{IsStrictlySortedBy}
-use Rattle.std.specs.Cmp.{IsTotalOrder}
 use Rattle.std.proofs.lemmas.Cmp.{eq_by_cmp_equiv, on_total}
 use Rattle.std.proofs.lemmas.Option.{same_Some, slice_get-map}
 use Rattle.lfg_terms.specs.declared.grammar.Grammar.{Grammar}
@@ -16,6 +16,7 @@ use Rattle.lfg_context.specs.Seen.{Set, Known}
 use Rattle.lfg_context.specs.Sets.{Assignment, IsSetOf}
 use Rattle.lfg_model.specs.Lists.{In, here, later}
 use Rattle.lfg_model.proofs.Ascending.{all_in}
+use Rattle.lfg_model.proofs.ListLaws.{In_from_map}
 use Rattle.lfg_packed.specs.declared.key.ChoiceKey.{ChoiceKey}
 use Rattle.lfg_packed.specs.KeyLaws.{key_cmp_total}
 use Rattle.lfg_packed.specs.ChoicePoints.{ChoicePoint, key_of, key_cmp, choice_cmp}
@@ -25,6 +26,7 @@ use Rattle.lfg_packed.proofs.KeyTies.{one_place}
 use Rattle.lfg_packed.proofs.Listing.{get_In}
 use Rattle.lfg_packed.proofs.Selecting.{within}
 use Rattle.lfg_instant.specs.declared.junctions.Junction.{Junction}
+use Rattle.lfg_instant.specs.JunctionOrder.{junction_cmp}
 use Rattle.lfg_instant.specs.Junctions.{placed, place_of_key, IsPlaceKey, AreJunctions}
 use Rattle.lfg_instant.proofs.JunctionsHold.{place_of}
 
@@ -66,7 +68,7 @@ module _ (g : Grammar) (s : List TokenForms) (js : List Junction) (are : AreJunc
   junction_taken x key i n is at a =
       let same : place_of_key key ≡ x = ap place_of_key is ∙ place_of g s x in
       let there : slice_get (map placed js) i ≡ Some (record { at = x; alternatives = n }) =
-          slice_get-map placed js i ∙ ap (option_map placed) at ∙ ap (λ (z : ChoicePoint). Some (with_number z n)) same in
+      slice_get-map placed js i ∙ ap (option_map placed) at ∙ ap (λ (z : ChoicePoint). Some (with_number z n)) same in
       taken_at g s a 0 (map placed js) x i n are.choices.ascends there ∙ ap (λ k. taken a k n) (from_none i)
     where
       from_none : (i : ℕ) → 0 + i ≡ i
@@ -114,3 +116,34 @@ pub number_within : (js : List Junction) (space : List Choice) → space ≡ map
 number_within js space e key i n many number at same l =
     let m : alternatives_of space i ≡ n = ap (λ (cs : List Choice). alternatives_of cs i) e ∙ alternatives_at js i key n at in
     omega (arith, m, same, l)
+
+-- a list of junctions that are the choices of a sentence ascends, and has one at each place with two
+-- alternatives or more
+module _ (g : Grammar) (s : List TokenForms) where
+  less_junctions : (j k : Junction) → j.key ≡ key_of g s (place_of_key j.key) → k.key ≡ key_of g s (place_of_key k.key) → choice_cmp g s (place_of_key j.key) (place_of_key k.key) ≡ Less → junction_cmp j k ≡ Less
+  less_junctions j k a b h =
+      let l : key_cmp j.key k.key ≡ Less = ap (λ (z : ChoiceKey). key_cmp z k.key) a ∙ ap (λ (z : ChoiceKey). key_cmp (key_of g s (place_of_key j.key)) z) b ∙ h in
+      ap (λ o. ordering_then o (nat_cmp j.alternatives k.alternatives)) l
+
+  abbrev HasOwnKey : Junction → Type 0
+  HasOwnKey j = j.key ≡ key_of g s (place_of_key j.key)
+
+  all_behind : (j : Junction) (js : List Junction) → HasOwnKey j → ((k : Junction) → In k js → HasOwnKey k) → AllByRecursion (λ c. choice_cmp g s (place_of_key j.key) c.at ≡ Less) (map placed js) → AllByRecursion (λ k. junction_cmp j k ≡ Less) js
+  all_behind j [] a b h = tt
+  all_behind j (k ∷ js) a b h = (less_junctions j k a (b k here) h.0, all_behind j js a (λ z i. b z (later i)) h.1)
+
+  pub junctions_ascend : (js : List Junction) → ((k : Junction) → In k js → HasOwnKey k) → IsStrictlySortedBy (on (λ c. c.at) (choice_cmp g s)) (map placed js) → IsStrictlySortedBy junction_cmp js
+  unfolding IsStrictlySortedBy
+  junctions_ascend [] keys h = tt
+  junctions_ascend (j ∷ js) keys h = (all_behind j js (keys j here) (λ k i. keys k (later i)) h.0, junctions_ascend js (λ k i. keys k (later i)) h.1)
+
+  pub junction_there : (js : List Junction) → AreJunctions g s js → (x : ChoicePoint) (key : ChoiceKey) (many number n : ℕ) → IsPlaceKey g s x key many number → n ≡ many → 2 ≤ many
+      → In {X = Junction} (record { key = key; alternatives = n }) js
+  junction_there js are x key many number n p same two =
+      let r = In_from_map placed js ((are.choices.exact (with_number x many)).1 (p.has, two)) in
+      let j : Junction = r.0 in
+      let at : place_of_key j.key ≡ x = ap (λ (c : PlacedChoice). c.at) r.2 in
+      let m : j.alternatives ≡ n = ap (λ (c : PlacedChoice). c.alternatives) r.2 ∙ sym same in
+      let k : j.key ≡ key = are.keys j r.1 ∙ ap (key_of g s) at ∙ sym p.is in
+      let e : j ≡ record { key = key; alternatives = n } = λ i. record { key = k i; alternatives = m i } in
+      let P : Junction → Type 0 = λ z. In z js in subst P e r.1

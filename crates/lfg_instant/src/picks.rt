@@ -81,8 +81,10 @@ pub(crate) fn pick(
         return Err(AllocError);
     };
     let sought = Junction { key, alternatives };
-    let Ok(place) = junctions.binary_search(&sought) else {
-        return Err(AllocError);
+    let place = match junctions.binary_search(&sought) {
+        Ok(place) => place,
+        // Each place with two alternatives or more has a junction, so this never happens.
+        Err(_) => return Ok(contexts.no()),
     };
     let Ok(choice) = u32::try_from(place) else {
         return Err(AllocError);

@@ -50,10 +50,10 @@ fn schema_count(schema: &Schema<Paths>) -> u64
     ensures { result ≡ min (schema_size (schema_of schema.now)) (2 ^ 64 - 1) }
 {
     match schema {
-        Schema::Define { left, right } =>
-            string_count(&left.path).saturating_mul(val_count(right)),
-        Schema::Member { item, set } =>
-            string_count(&item.path).saturating_mul(string_count(&set.path)),
+        Schema::Define { left, right } => string_count(&left.path).saturating_mul(val_count(right)),
+        Schema::Member { item, set } => string_count(&item.path).saturating_mul(string_count(
+            &set.path,
+        )),
         Schema::Either(branches) => {
             let mut count = 0u64;
             for branch in branches {
@@ -99,10 +99,7 @@ fn push_arities(arities: &mut Vec<u32>, schemata: &[Schema<Paths>]) -> Result<()
 
 /// Appends how many alternatives each numbered place of the schema has.
 #[cycle(arities)]
-fn push_schema_arities(
-    arities: &mut Vec<u32>,
-    schema: &Schema<Paths>,
-) -> Result<(), AllocError>
+fn push_schema_arities(arities: &mut Vec<u32>, schema: &Schema<Paths>) -> Result<(), AllocError>
     ensures { OnOk result (arities.new.items
         ≡ arities.old.items ++ map in_32_bits (schema_places (schema_of schema.now))) }
 {

@@ -1,4 +1,4 @@
-use Rattle.std.proofs.Common.{◌≡◌, ◌<◌, List, ℕ, length, ap, arith}
+use Rattle.std.proofs.Common.{◌<◌, List, ℕ, length, ap, arith}
 use Rattle.lfg_terms.specs.declared.node.Edge.{Edge}
 use Rattle.lfg_instant.specs.Junctions.{IsJunction, entry_key, IsEdgeJunction}
 use Rattle.lfg_instant.proofs.CollectLaws.{counted_more, place_is}
