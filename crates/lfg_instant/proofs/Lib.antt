@@ -1,3 +1,4 @@
+mod BranchLaws
 mod CollectLaws
 mod FactLaws
 mod FlowRounds

@@ -4,4 +4,5 @@ pub mod Flow
 pub mod Junctions
 pub mod Outlines
 pub mod Sites
+pub mod Sizes
 pub mod Steps

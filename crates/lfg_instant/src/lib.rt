@@ -4,4 +4,6 @@
 mod facts;
 mod flow;
 mod junctions;
+mod schemata;
+mod sizes;
 mod steps;
