@@ -1,5 +1,6 @@
 mod BranchLaws
 mod CollectLaws
+mod CountLaws
 mod FactLaws
 mod FlowRounds
 mod FlowTables

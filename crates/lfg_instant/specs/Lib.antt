@@ -1,6 +1,7 @@
 pub mod Collects
 pub mod Facts
 pub mod Flow
+pub mod Instants
 pub mod Junctions
 pub mod Outlines
 pub mod Sites
