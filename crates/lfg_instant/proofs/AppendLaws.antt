@@ -1,5 +1,5 @@
 -- How lists of things under sets grow: part after part, string by string, branch by branch.
-use Rattle.std.proofs.Common.{◌≡◌, ℕ, zero, suc, ◌==◌, ◌&&◌, Bool, true, false, List, [], ◌∷◌, ◌++◌, ◌+◌, ◌-◌, ◌*◌, ◌^◌, ◌<◌, ◌≤◌, min, get_or, length, map, take, drop, refl, sym, ap, ◌∙◌, subst, if◌then◌else◌, arith}
+use Rattle.std.proofs.Common.{◌≡◌, ℕ, zero, suc, ◌&&◌, Bool, true, false, List, [], ◌∷◌, ◌++◌, ◌+◌, ◌-◌, ◌*◌, ◌^◌, ◌<◌, ◌≤◌, min, get_or, length, map, take, drop, refl, sym, ap, ◌∙◌, subst, if◌then◌else◌, arith}
 use Rattle.std.specs.Prelude.{slice_get, Some}
 use Rattle.std.proofs.lemmas.List.{append-nil, append_assoc, at_drop_more}
 use Rattle.std.proofs.Math.Nat.{add-mul}
@@ -18,7 +18,7 @@ pub appends_none : {X : Type 0} (ns : List ℕ) (given : List ℕ → List X) (p
     → ((ps : List ℕ) → given ps ≡ []) → new ≡ old → Appends ns given picks c old new
 appends_none {X} ns given picks c old new none e = record {
   exact = λ a ps p f. ap (λ xs. holding xs a) e ∙ sym (append-nil (holding old a))
-    ∙ ap (λ xs. holding old a ++ xs) (sym (ap (λ xs. if member c a then xs else []) (none ps) ∙ nothing_given (member c a)));
+      ∙ ap (λ xs. holding old a ++ xs) (sym (ap (λ xs. if member c a then xs else []) (none ps) ∙ nothing_given (member c a)));
 }
 
 -- one thing comes, whatever is picked
@@ -26,7 +26,7 @@ pub appends_one : {X : Type 0} (ns : List ℕ) (given : List ℕ → List X) (pi
     → ((ps : List ℕ) → x ∷ [] ≡ given ps) → new ≡ old ++ (x, c) ∷ [] → Appends ns given picks c old new
 appends_one {X} ns given picks c old new x is e = record {
   exact = λ a ps p f. ap (λ xs. holding xs a) e ∙ holding-append old ((x, c) ∷ []) a
-    ∙ ap (λ xs. holding old a ++ (if member c a then xs else [])) (is ps);
+      ∙ ap (λ xs. holding old a ++ (if member c a then xs else [])) (is ps);
 }
 
 -- one part after another
@@ -93,7 +93,7 @@ pub appends_map : {X Y : Type 0} (ns : List ℕ) (f : List ℕ → X) (h : X →
     → Appends ns (λ ps. f ps ∷ []) picks c [] found → xs ≡ found → new ≡ old ++ map (λ x. (h x.0, x.1)) xs → Appends ns (λ ps. h (f ps) ∷ []) picks c old new
 appends_map {X} {Y} ns f h picks c found xs old new one same e = record {
   exact = λ a ps p fits. ap (λ zs. holding zs a) e ∙ holding-append old (map (λ x. (h x.0, x.1)) xs) a
-    ∙ ap (λ zs. holding old a ++ zs) (holding-map h xs a ∙ ap (map h) (ap (λ zs. holding zs a) same ∙ one.exact a ps p fits) ∙ given-map h (member c a) (f ps ∷ []));
+      ∙ ap (λ zs. holding old a ++ zs) (holding-map h xs a ∙ ap (map h) (ap (λ zs. holding zs a) same ∙ one.exact a ps p fits) ∙ given-map h (member c a) (f ps ∷ []));
 }
 
 -- ---- branches
@@ -109,7 +109,7 @@ pub taken_none : {X : Type 0} (ns : List ℕ) (given : ℕ → List ℕ → List
     → ((k : ℕ) (ps : List ℕ) → given k ps ≡ []) → AppendsTaken ns given alternatives picks c old old
 taken_none {X} ns given alternatives picks c old none = record {
   exact = λ a k ps q p f. sym (append-nil (holding old a))
-    ∙ ap (λ xs. holding old a ++ xs) (sym (ap (λ xs. if member c a then xs else []) (none k ps) ∙ nothing_given (member c a)));
+      ∙ ap (λ xs. holding old a ++ xs) (sym (ap (λ xs. if member c a then xs else []) (none k ps) ∙ nothing_given (member c a)));
 }
 
 -- the first alternative, with what it gives, and those behind it
@@ -125,16 +125,21 @@ taken_step {X} ns ms f g given x xs picks first rest c m old mid new e d meets h
       where
         p1 : ArePicks first a (own ns ps)
         p1 = let P : List (List Set) → Type 0 = λ z. ArePicks z a (take (length ns) ps) in subst P (sym e) (picks_before picks a ps (length ns) p)
+
         p2 : ArePicks rest a (others ns ps)
         p2 = let P : List (List Set) → Type 0 = λ z. ArePicks z a (drop (length ns) ps) in subst P (sym d) (picks_behind picks a ps (length ns) p)
+
         h1 : holding mid a ≡ holding old a ++ (if member m a then f (own ns ps) else [])
         h1 = one.exact a (own ns ps) p1 (fit_before ps ns ms fits)
+
         with_true : (b : Bool) → b && true ≡ b
         with_true true = refl
         with_true false = refl
+
         with_false : (b : Bool) → b && false ≡ false
         with_false true = refl
         with_false false = refl
+
         by_pick : (k : ℕ) → IsPick (x ∷ xs) a k → holding new a ≡ holding old a ++ (if member c a then given k ps else [])
         by_pick zero q =
             let h2 = two.exact a (length xs) (others ns ps) (pick_past x xs a q) p2 (fit_behind ps ns ms fits) in
@@ -168,9 +173,11 @@ option_done {X} ns f given x alternatives picks rest c m old new e at meets here
     with_true : (b : Bool) → b && true ≡ b
     with_true true = refl
     with_true false = refl
+
     with_false : (b : Bool) → b && false ≡ false
     with_false true = refl
     with_false false = refl
+
     by_picks : (a : Assignment) (ps : List ℕ) → ArePicks (alternatives ∷ rest) a ps → PicksFit ps (2 ∷ ns) → holding new a ≡ holding old a ++ (if member c a then given ps else [])
     by_picks a [] p fits = absurd p
     by_picks a (zero ∷ ps) p fits =

@@ -1,5 +1,5 @@
 -- The numbered places of a disjunction.
-use Rattle.std.proofs.Common.{◌≡◌, ℕ, zero, suc, ◌+◌, ◌-◌, ◌<◌, drop, arith, List, [], ◌∷◌, ◌++◌, length, map, refl, sym, ap, ◌∙◌}
+use Rattle.std.proofs.Common.{◌≡◌, ℕ, suc, ◌<◌, drop, arith, List, [], ◌∷◌, ◌++◌, length, map, refl, sym, ap, ◌∙◌}
 use Rattle.std.specs.declared.vec.Vec.{Vec}
 use Rattle.std.specs.Global.{Global}
 use Rattle.std.proofs.lemmas.List.{append-nil, append_assoc, length-drop}
@@ -8,7 +8,6 @@ use Rattle.lfg_terms.specs.declared.grammar.Schema as declared
 use Rattle.lfg_model.specs.Places.{places, schema_places, branch_count, branch_places}
 use Rattle.lfg_model.specs.Resolve.{Instance, branch_literals}
 use Rattle.lfg_model.specs.Terms.{Paths, Schema, either, maybe, Annotation, Branches, no_branch, or_branch, branches_from}
-use Rattle.lfg_terms.specs.declared.literal.Literal.{Literal}
 use Rattle.lfg_instant.specs.Sizes.{in_32_bits}
 
 -- a disjunction has as many branches as the vector that holds them

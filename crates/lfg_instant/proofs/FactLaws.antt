@@ -27,7 +27,7 @@ use Rattle.lfg_instant.specs.Sites.{AreEntryLists}
 use Rattle.lfg_instant.specs.Steps.{IsStepOf, AreSteps, IsWordOf, AreWordsOf}
 
 module _ (g : Grammar) (s : List TokenForms) (loaded : Loaded g) (chart : ChartForm) (is_chart : IsChart g s chart.edges chart.forks) (lists : List (List ℕ)) (are : AreEntryLists g s chart.edges lists)
-         (steps : List Step) (are_steps : AreSteps chart.forks steps) (words : List Word) (are_words : AreWordsOf chart.edges lists words) where
+    (steps : List Step) (are_steps : AreSteps chart.forks steps) (words : List Word) (are_words : AreWordsOf chart.edges lists words) where
   -- a step stands, and what stands is a step
   pub step_stands : (st : Step) → In st steps → Stands g s (AStep st.point (next.Item st.occ st.to))
   step_stands st i =
@@ -75,7 +75,7 @@ module _ (g : Grammar) (s : List TokenForms) (loaded : Loaded g) (chart : ChartF
       back (AStep p (next.Item occ to), st, i) =
           let r = standing_step p occ to st in
           let moved : under_facts p.edge p.at to (category_at g p.edge occ) ≡ under_facts r.0.point.edge r.0.point.at r.0.to (category_at g r.0.point.edge r.0.occ) =
-            (λ j. under_facts (sym r.2 j).edge (sym r.2 j).at (sym r.4 j) (category_at g (sym r.2 j).edge (sym r.3 j))) in
+          (λ j. under_facts (sym r.2 j).edge (sym r.2 j).at (sym r.4 j) (category_at g (sym r.2 j).edge (sym r.3 j))) in
           let P : List Fact → Type 0 = λ fs. In f fs in
           inl (r.0, r.1, subst P moved i)
       back (AWord e k, st, i) =

@@ -1,6 +1,7 @@
 pub mod AppendLaws
 pub mod BranchLaws
 pub mod CollectLaws
+pub mod CountLaws
 pub mod EntryLaws
 pub mod FactLaws
 pub mod FlowRounds

@@ -1,7 +1,7 @@
 -- The sets of the picks of a part are made, as those of the whole are.
-use Rattle.std.proofs.Common.{◌≡◌, ℕ, zero, suc, List, [], ◌∷◌, ◌++◌, take, drop, refl, sym, subst}
+use Rattle.std.proofs.Common.{◌≡◌, ℕ, zero, suc, List, [], ◌∷◌, ◌++◌, take, drop, sym, subst}
 use Rattle.lfg_model.specs.Lists.{In, here, later}
-use Rattle.lfg_model.proofs.ListLaws.{In-take, In-nil}
+use Rattle.lfg_model.proofs.ListLaws.{In-take}
 use Rattle.lfg_context.specs.Seen.{Set, Known}
 use Rattle.lfg_context.specs.Sets.{IsMade, IsGrown, IsSetOf, AreMade}
 use Rattle.lfg_context.proofs.Growing.{made_grown, grown_trans, grown_refl, same_picks_trans, same_picks_refl, are_made_grown, are_made_nil, are_made_push, set_made_at, pair_made_at}

@@ -1,5 +1,5 @@
 -- The nodes of a designator, string by string.
-use Rattle.std.proofs.Common.{◌≡◌, ℕ, zero, suc, ◌+◌, ◌<◌, ◌==◌, ◌&&◌, Bool, true, false, Option, None, Some, List, [], ◌∷◌, ◌++◌, length, refl, sym, ap, ◌∙◌, subst, if◌then◌else◌, arith, get_or}
+use Rattle.std.proofs.Common.{◌≡◌, ℕ, zero, suc, ◌<◌, ◌==◌, ◌&&◌, Bool, true, false, Option, None, Some, List, [], ◌∷◌, ◌++◌, length, refl, sym, ap, ◌∙◌, subst, if◌then◌else◌, arith, get_or}
 use Rattle.std.specs.Prelude.{slice_get}
 use Rattle.lfg_terms.specs.declared.grammar.Des.{Des}
 use Rattle.lfg_terms.specs.declared.node.Node.{Node}
@@ -58,6 +58,7 @@ strings_step it d alternatives c i j found new x m n at meets is e more so_far =
         ≡ (if b then one_below (λ z. node_of it d (z ∷ [])) (suc i) k else [])
     by_member true k = below_more (λ z. node_of it d (z ∷ [])) i k
     by_member false k = refl
+
     both : (a : Assignment) (k : ℕ) → IsPick alternatives a k → holding new a ≡ (if member c a then one_below (λ z. node_of it d (z ∷ [])) (suc i) k else [])
     both a k p = ap (λ xs. holding xs a) e ∙ holding-push found n m a
         ∙ ap (λ xs. xs ++ (if member m a then n ∷ [] else [])) (so_far.exact a k p)
@@ -81,9 +82,11 @@ one_place (Some (p ∷ q ∷ ps)) xs others e = let same = ap first e in (ap (λ
 pub strings_done : (it : Instance) (d : Des Paths) (picks : List (List Set)) (alternatives : List Set) (others : List (List Set)) (c : Set) (found : List (Node × Set)) (i : ℕ)
     → picks ≡ alternatives ∷ others → arities picks ≡ path_places d.path → i ≡ length alternatives → HasStrings it d alternatives c i found
     → Appends (path_places d.path) (λ ps. node_of it d ps ∷ []) picks c [] found
-strings_done it d picks alternatives others c found i e shape all so_far = record { exact = λ a ps p fits.
-    by_picks a ps (let P : List (List Set) → Type 0 = λ z. ArePicks z a ps in subst P e p)
-    (let Q : List ℕ → Type 0 = PicksFit ps in subst Q (one_place d.path alternatives others (sym (ap arities e) ∙ shape)).0 fits) }
+strings_done it d picks alternatives others c found i e shape all so_far = record {
+  exact = λ a ps p fits.
+      by_picks a ps (let P : List (List Set) → Type 0 = λ z. ArePicks z a ps in subst P e p)
+      (let Q : List ℕ → Type 0 = PicksFit ps in subst Q (one_place d.path alternatives others (sym (ap arities e) ∙ shape)).0 fits);
+}
   where
     by_picks : (a : Assignment) (ps : List ℕ) → ArePicks (alternatives ∷ others) a ps → PicksFit ps (length alternatives ∷ []) → holding found a ≡ (if member c a then node_of it d ps ∷ [] else [])
     by_picks a [] p fits = absurd p

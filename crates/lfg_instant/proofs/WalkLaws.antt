@@ -1,5 +1,5 @@
 -- An annotation's literals as they come, schema by schema and branch by branch.
-use Rattle.std.proofs.Common.{◌≡◌, ℕ, zero, suc, ◌+◌, ◌-◌, ◌*◌, ◌^◌, ◌<◌, ◌&&◌, List, [], ◌∷◌, ◌++◌, length, min, take, drop, refl, sym, ap, ◌∙◌, subst, arith}
+use Rattle.std.proofs.Common.{◌≡◌, ℕ, ◌+◌, ◌-◌, ◌^◌, ◌<◌, ◌&&◌, List, [], ◌∷◌, length, min, take, drop, refl, sym, ap, ◌∙◌, subst, arith}
 use Rattle.lfg_terms.specs.declared.literal.Literal.{Literal}
 use Rattle.lfg_model.specs.Places.{places, schema_places, branch_count, branch_places, form_count, schema_forms, branch_forms}
 use Rattle.lfg_model.specs.Resolve.{Instance, resolved, schema_literals, branch_literals}
@@ -119,8 +119,8 @@ branches_step it all index alternatives picks c old left alts rest next now b bs
       let fits : next + form_count b < 2 ^ 32 = omega (arith, whole, here, h) in
       let behind_it = (let P : ℕ → Type 0 = λ k. AppendsTaken (branch_places bs) (λ z ps. branch_literals it bs z ps k) xs others c mid new in subst P exact w) in
       let both = taken_step (places b) (branch_places bs) (λ ps. resolved it b ps next) (λ z ps. branch_literals it bs z ps (next + form_count b)) (λ z ps. branch_literals it (or_branch b bs) z ps next)
-          x xs rest first others c m now mid new e d meets (λ ps. refl) (λ z ps. refl)
-          (λ ps. ap (λ z. branch_literals it bs z ps (next + form_count b)) few_left ∙ branches_past it bs ps (next + form_count b)) (given fits) behind_it in
+      x xs rest first others c m now mid new e d meets (λ ps. refl) (λ z ps. refl)
+      (λ ps. ap (λ z. branch_literals it bs z ps (next + form_count b)) few_left ∙ branches_past it bs ps (next + form_count b)) (given fits) behind_it in
       so_far.each h new
       (let Q : Branches → List Set → Type 0 = λ z zs. AppendsTaken (branch_places z) (λ k ps. branch_literals it z k ps next) zs rest c now new in
       let R : List Set → Type 0 = Q left in let T : Branches → Type 0 = λ z. Q z (x ∷ xs) in subst R (sym v) (subst T (sym l) both)));

@@ -1,5 +1,5 @@
 -- The literals of an annotation over all its picks, each in the set of the assignments that have it.
-use Rattle.std.specs.Prelude.{◌≡◌, ℕ, ◌==◌, Option, Some, List, [], ◌∷◌, ◌++◌, if◌then◌else◌, slice_get, length, map}
+use Rattle.std.specs.Prelude.{◌≡◌, ℕ, ◌==◌, Some, List, [], ◌∷◌, ◌++◌, if◌then◌else◌, slice_get, length, map}
 use Rattle.lfg_model.specs.Lists.{In}
 use Rattle.lfg_model.specs.Places.{PicksFit}
 use Rattle.lfg_model.specs.Resolve.{Instance}

@@ -3,6 +3,7 @@ pub mod Collects
 pub mod Facts
 pub mod Flow
 pub mod Holding
+pub mod Instants
 pub mod JunctionOrder
 pub mod Junctions
 pub mod Literals

@@ -96,17 +96,26 @@ impl Instance<'_> {
         ensures same_picks { HasSamePicks contexts.old contexts.new }
     {
         match schema {
-            Schema::Define { left, right } =>
-                self.push_definition(alloc, literals, left, right, ctx, picks, index, contexts),
+            Schema::Define { left, right } => self.push_definition(
+                alloc, literals, left, right, ctx, picks, index, contexts,
+            ),
             Schema::Constrain {
                 negated,
                 left,
                 right,
-            } => push_literal(literals, self.comparison(alloc, *negated, left, right)?, ctx),
-            Schema::Exists { negated, left } =>
-                push_literal(literals, self.existence(alloc, *negated, left)?, ctx),
-            Schema::Member { item, set } =>
-                self.push_membership(alloc, literals, item, set, ctx, picks, contexts),
+            } => push_literal(
+                literals,
+                self.comparison(alloc, *negated, left, right)?,
+                ctx,
+            ),
+            Schema::Exists { negated, left } => push_literal(
+                literals,
+                self.existence(alloc, *negated, left)?,
+                ctx,
+            ),
+            Schema::Member { item, set } => self.push_membership(
+                alloc, literals, item, set, ctx, picks, contexts,
+            ),
             Schema::Mark(name) => push_literal(literals, Literal::Mark(name.clone()?), ctx),
             Schema::Either(branches) => {
                 let Some((alternatives, others)) = first_place(picks) else {
@@ -163,7 +172,9 @@ impl Instance<'_> {
         let (own, others) = cut(picks, path_places(&left.path));
         let found = self.nodes(alloc, left, ctx, own, contexts)?;
         for at in &found {
-            self.push_equations(alloc, literals, &at.0, right, &at.1, others, index, contexts)?;
+            self.push_equations(
+                alloc, literals, &at.0, right, &at.1, others, index, contexts,
+            )?;
         }
         Ok(())
     }

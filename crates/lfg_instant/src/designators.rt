@@ -97,11 +97,7 @@ impl Instance<'_> {
 }
 
 /// The string of a path with this number, from 0, or the empty one.
-fn string_taken(
-    alloc: Global,
-    path: &Option<Paths>,
-    number: usize,
-) -> Result<Path, AllocError>
+fn string_taken(alloc: Global, path: &Option<Paths>, number: usize) -> Result<Path, AllocError>
     ensures { IfOk result (λ string. string ≡ string_taken path.now (number ∷ [])) }
 {
     let Some(paths) = path else {

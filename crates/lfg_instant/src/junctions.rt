@@ -15,6 +15,7 @@ ghost use Rattle.lfg_instant.specs.Collects.{Collects};
 ghost use Rattle.lfg_instant.specs.Junctions.{IsJunction, IsNextJunction, IsEntryJunction, IsPlaceJunction, IsBranchJunction, AreJunctions};
 ghost use Rattle.lfg_instant.specs.JunctionOrder.{junction_cmp, junction_cmp_total};
 
+use crate::schemata::schemata_at;
 use crate::sizes::place_arities;
 use lfg_chart::Chart;
 use lfg_packed::ChoiceKey;
@@ -164,52 +165,6 @@ fn place_junctions(
         push_junction(at_place, *many as usize, junctions)?;
     }
     Ok(())
-}
-
-/// The items of the category's rule, or none.
-fn items_of<'a>(grammar: &'a Grammar, cat: &Name) -> &'a [Item]
-    ensures { result.now ≡ items_of (rule_of grammar.now cat.now) }
-{
-    for rule in grammar.rules.list() {
-        if rule.cat == *cat {
-            return rule.items.list();
-        }
-    }
-    &[]
-}
-
-/// The schemata of the item with this number, counted from 1, or none.
-fn item_schemata(items: &[Item], occ: u32) -> &[Schema<Paths>]
-    ensures { annotation_of result.now ≡ item_annotation (item_at items.now occ) }
-{
-    if occ == 0 {
-        return &[];
-    }
-    match items.get(occ as usize - 1) {
-        Some(item) => item.schemata.list(),
-        None => &[],
-    }
-}
-
-/// The schemata of the lexicon entry at this place, counted from 0, or none.
-fn entry_schemata(grammar: &Grammar, entry: u32) -> &[Schema<Paths>]
-    ensures { annotation_of result.now ≡ entry_annotation (slice_get grammar.now.lexicon entry) }
-{
-    match grammar.lexicon.list().get(entry as usize) {
-        Some(lex) => lex.schemata.list(),
-        None => &[],
-    }
-}
-
-/// The schemata of the item or entry with this key, or none.
-pub(crate) fn schemata_at<'a>(grammar: &'a Grammar, key: &ChoiceKey) -> &'a [Schema<Paths>]
-    ensures { annotation_of result.now ≡ annotation_at grammar.now (site_of_key key.now) }
-{
-    if key.rank == 2 {
-        item_schemata(items_of(grammar, &key.edge.cat), key.item)
-    } else {
-        entry_schemata(grammar, key.item)
-    }
 }
 
 /// How many alternatives each numbered place of the schemata has.

@@ -2,16 +2,24 @@
 #![tactic(auto)]
 
 mod annotation;
+mod counts;
 mod designators;
 mod entries;
 mod facts;
+mod fault;
 mod flow;
 mod junctions;
+pub mod laws;
 mod literals;
 mod picks;
 mod places;
+mod schemata;
 mod sets;
 mod sites;
 mod sizes;
 mod steps;
+#[cfg(test)]
+mod tests;
 mod words;
+
+pub use fault::InstantFault;

@@ -14,8 +14,9 @@ ghost use Rattle.lfg_terms.specs.declared.literal.Site.{Site};
 
 use crate::annotation::Instance;
 use crate::facts::{item_at, items_of};
-use crate::junctions::{Junction, place_numbers, schemata_at};
+use crate::junctions::{Junction, place_numbers};
 use crate::places::forms;
+use crate::schemata::schemata_at;
 use crate::sets::site_sets;
 use lfg_choice::ChoiceSpace;
 use lfg_context::{Contexts, Ctx};

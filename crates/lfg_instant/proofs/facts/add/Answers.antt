@@ -11,7 +11,7 @@ returns-in_ok-push c =
     let xs = c.args.facts.now.items in
     let one : (f : Fact) → (f ≡ c.in-Some.fact) → In f (c.in-Some.fact ∷ []) = λ f e. (let P : Fact → Type 0 = λ z. In z (c.in-Some.fact ∷ []) in subst P (sym e) here) in
     rw c.in-Some.is (collects_along xs c.push.new.self.items (λ f. f ≡ c.in-Some.fact) (λ f. In f (c.in-Some.fact ∷ []))
-      (λ f. (one f, λ i. In-one i)) (collects_one xs c.push.new.self.items c.in-Some.fact c.in_ok-push.ensures.items))
+    (λ f. (one f, λ i. In-one i)) (collects_one xs c.push.new.self.items c.in-Some.fact c.in_ok-push.ensures.items))
 
 pub returns-in_default : goal.returns-in_default
 returns-in_default c = rw c.in_default.is (collects_none c.args.facts.now.items (λ f. In f []) (λ f i. In-nil i))

@@ -1,7 +1,7 @@
-use Rattle.std.proofs.Common.{◌∷◌, ◌++◌, ap, ◌∙◌, sym, map, drop, rules, arith}
-use Rattle.std.proofs.lemmas.List.{at_drop_all, append_assoc}
+use Rattle.std.proofs.Common.{ap, ◌∙◌, sym, map, arith}
+use Rattle.std.proofs.lemmas.List.{at_drop_all}
 use Rattle.std.proofs.lemmas.Result.{on_ok_weaker}
-use Rattle.lfg_model.specs.Places.{schema_places, branch_places}
+use Rattle.lfg_model.specs.Places.{branch_places}
 use Rattle.lfg_model.specs.Terms.{branches_from, schema_of}
 use Rattle.lfg_model.proofs.SchemaViews.{either_schema, maybe_schema}
 use Rattle.lfg_instant.specs.Sizes.{in_32_bits}

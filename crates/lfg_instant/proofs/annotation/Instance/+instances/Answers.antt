@@ -1,4 +1,4 @@
-use Rattle.std.proofs.Common.{◌≡◌, ◌+◌, ◌-◌, ◌^◌, ◌<◌, ◌∷◌, [], List, min, length, drop, refl, sym, ap, ◌∙◌, rules, arith}
+use Rattle.std.proofs.Common.{◌≡◌, ◌+◌, ◌-◌, ◌^◌, ◌∷◌, [], List, min, length, drop, refl, sym, ap, ◌∙◌, rules, arith}
 use Rattle.std.proofs.lemmas.List.{at_drop_all}
 use Rattle.std.proofs.lemmas.Option.{slice_get_read}
 use Rattle.std.proofs.lemmas.Result.{on_ok_weaker}
@@ -19,12 +19,21 @@ use Rattle.lfg_instant.proofs.WalkLaws.{schemata_step, schemata_first, schemata_
 use Rattle.lfg_instant.proofs.annotation.Instance.+instances.Goals as goal
 
 pub push_instances-push_schema-requires : goal.push_instances-push_schema-requires
-push_instances-push_schema-requires t c = (search (rules, the_lemmas),
-    (schemata_first (instance_of c.args.self.now) (annotation_of c.args.schemata.now) c.args.index c.args.picks.now c.args.ctx.now c.args.literals.now.items
-    (annotation_of (drop c.loop-schema.schema-index c.args.schemata.now)) c.loop-schema.rest.now c.loop-schema.next c.loop-schema.literals.items (schema_of c.schema-item.result) (annotation_of (drop (c.loop-schema.schema-index + 1) c.args.schemata.now)) c.cut.result.0.now c.loop-schema.invariant.way
-    (ap annotation_of (drop_next c.args.schemata.now c.loop-schema.schema-index c.schema-item.result c.loop-schema-test.true c.schema-item.is)) (c.cut.ensures.own (length (schema_places (schema_of c.schema-item.result))) c.schema_places.ensures),
-    (c.loop-schema.invariant.made, (c.loop-schema.invariant.ctx_made,
-    picks_made_before (length (schema_places (schema_of c.schema-item.result))) c.loop-schema.rest.now c.cut.result.0.now (c.cut.ensures.own (length (schema_places (schema_of c.schema-item.result))) c.schema_places.ensures) c.loop-schema.invariant.rest_made))))
+push_instances-push_schema-requires t c = (
+  search (rules, the_lemmas),
+  (
+    schemata_first (instance_of c.args.self.now) (annotation_of c.args.schemata.now) c.args.index c.args.picks.now c.args.ctx.now c.args.literals.now.items
+        (annotation_of (drop c.loop-schema.schema-index c.args.schemata.now)) c.loop-schema.rest.now c.loop-schema.next c.loop-schema.literals.items (schema_of c.schema-item.result) (annotation_of (drop (c.loop-schema.schema-index + 1) c.args.schemata.now)) c.cut.result.0.now c.loop-schema.invariant.way
+        (ap annotation_of (drop_next c.args.schemata.now c.loop-schema.schema-index c.schema-item.result c.loop-schema-test.true c.schema-item.is)) (c.cut.ensures.own (length (schema_places (schema_of c.schema-item.result))) c.schema_places.ensures),
+    (
+      c.loop-schema.invariant.made,
+      (
+        c.loop-schema.invariant.ctx_made,
+        picks_made_before (length (schema_places (schema_of c.schema-item.result))) c.loop-schema.rest.now c.cut.result.0.now (c.cut.ensures.own (length (schema_places (schema_of c.schema-item.result))) c.schema_places.ensures) c.loop-schema.invariant.rest_made,
+      ),
+    ),
+  ),
+)
 
 pub push_instances-loop-schema-preserved : goal.push_instances-loop-schema-preserved
 push_instances-loop-schema-preserved t c =
@@ -62,14 +71,23 @@ push_schema-and-requires-clause-b_made t c = set_made_at c.loop-number.number c.
     (alternative_there c.deref-branch-items.result.now c.in-Some.alternatives.now c.loop-number.number c.loop-number.invariant.way.few c.loop-number-test.true) c.index-alternatives-number.is
 
 pub push_schema-push_instances-requires : goal.push_schema-push_instances-requires
-push_schema-push_instances-requires t c = (search (rules, the_lemmas),
-    (branches_first (instance_of c.args.self.now) (branches_from c.deref-branch-items.result.now) c.args.index c.in-Some.alternatives.now c.in-Some.others.now c.args.ctx.now c.args.literals.now.items
-    (branches_from (drop c.loop-number.number c.deref-branch-items.result.now)) (drop c.loop-number.number c.in-Some.alternatives.now) c.loop-number.rest.now c.loop-number.next c.loop-number.literals.items (annotation_of c.deref-in-loop-number.result.now) (branches_from (drop (c.loop-number.number + 1) c.deref-branch-items.result.now)) c.cut.result.0.now c.loop-number.invariant.way
-    (ap branches_from (drop_next c.deref-branch-items.result.now c.loop-number.number c.branch-item.result c.loop-number-test.true c.branch-item.is) ∙ ap (λ (xs : List (declared.Schema Paths)). or_branch (annotation_of xs) (branches_from (drop (c.loop-number.number + 1) c.deref-branch-items.result.now))) (sym c.deref-in-loop-number.ensures.value))
-    (c.cut.ensures.own (length (places (annotation_of c.deref-in-loop-number.result.now))) (c.places.ensures ∙ ap (λ (xs : List (declared.Schema Paths)). min (length (places (annotation_of xs))) (2 ^ 64 - 1)) (c.deref.ensures.value ∙ sym c.deref-in-loop-number.ensures.value))),
-    (are_made_grown c.and.ensures.grown c.loop-number.invariant.made, (c.in_ok-met-in-Either.ensures.ok.made,
-    picks_made_grown c.and.ensures.grown (picks_made_before (length (places (annotation_of c.deref-in-loop-number.result.now))) c.loop-number.rest.now c.cut.result.0.now
-    (c.cut.ensures.own (length (places (annotation_of c.deref-in-loop-number.result.now))) (c.places.ensures ∙ ap (λ (xs : List (declared.Schema Paths)). min (length (places (annotation_of xs))) (2 ^ 64 - 1)) (c.deref.ensures.value ∙ sym c.deref-in-loop-number.ensures.value))) c.loop-number.invariant.rest_made)))))
+push_schema-push_instances-requires t c = (
+  search (rules, the_lemmas),
+  (
+    branches_first (instance_of c.args.self.now) (branches_from c.deref-branch-items.result.now) c.args.index c.in-Some.alternatives.now c.in-Some.others.now c.args.ctx.now c.args.literals.now.items
+        (branches_from (drop c.loop-number.number c.deref-branch-items.result.now)) (drop c.loop-number.number c.in-Some.alternatives.now) c.loop-number.rest.now c.loop-number.next c.loop-number.literals.items (annotation_of c.deref-in-loop-number.result.now) (branches_from (drop (c.loop-number.number + 1) c.deref-branch-items.result.now)) c.cut.result.0.now c.loop-number.invariant.way
+        (ap branches_from (drop_next c.deref-branch-items.result.now c.loop-number.number c.branch-item.result c.loop-number-test.true c.branch-item.is) ∙ ap (λ (xs : List (declared.Schema Paths)). or_branch (annotation_of xs) (branches_from (drop (c.loop-number.number + 1) c.deref-branch-items.result.now))) (sym c.deref-in-loop-number.ensures.value))
+        (c.cut.ensures.own (length (places (annotation_of c.deref-in-loop-number.result.now))) (c.places.ensures ∙ ap (λ (xs : List (declared.Schema Paths)). min (length (places (annotation_of xs))) (2 ^ 64 - 1)) (c.deref.ensures.value ∙ sym c.deref-in-loop-number.ensures.value))),
+    (
+      are_made_grown c.and.ensures.grown c.loop-number.invariant.made,
+      (
+        c.in_ok-met-in-Either.ensures.ok.made,
+        picks_made_grown c.and.ensures.grown (picks_made_before (length (places (annotation_of c.deref-in-loop-number.result.now))) c.loop-number.rest.now c.cut.result.0.now
+            (c.cut.ensures.own (length (places (annotation_of c.deref-in-loop-number.result.now))) (c.places.ensures ∙ ap (λ (xs : List (declared.Schema Paths)). min (length (places (annotation_of xs))) (2 ^ 64 - 1)) (c.deref.ensures.value ∙ sym c.deref-in-loop-number.ensures.value))) c.loop-number.invariant.rest_made),
+      ),
+    ),
+  ),
+)
 
 pub push_schema-loop-number-preserved : goal.push_schema-loop-number-preserved
 push_schema-loop-number-preserved t c =
@@ -100,9 +118,19 @@ push_schema-and-requires-in-Maybe-clause-b_made t c =
 
 pub push_schema-push_instances-requires-in-Maybe : goal.push_schema-push_instances-requires-in-Maybe
 push_schema-push_instances-requires-in-Maybe t c =
-    let kept = (option_places (schema_of c.args.schema.now) (annotation_of c.deref-in-Maybe.result.now) c.in-Some-first_place.alternatives.now c.args.picks.now c.in-Some-first_place.others.now (maybe_schema c.args.schema.now c.in-Maybe.inside c.deref-in-Maybe.result.now c.in-Maybe.is c.deref-in-Maybe.ensures.value) c.in-Some-first_place.ensures c.requires.places) in (search (rules, the_lemmas), (kept.0,
-    (are_made_grown c.and-in-Maybe.ensures.grown c.requires.literals_made, (c.in_ok-met-in-Maybe.ensures.ok.made,
-    picks_made_grown c.and-in-Maybe.ensures.grown (picks_made_others c.args.picks.now c.in-Some-first_place.others.now c.in-Some-first_place.alternatives.now c.in-Some-first_place.ensures c.requires.picks_made)))))
+    let kept = (option_places (schema_of c.args.schema.now) (annotation_of c.deref-in-Maybe.result.now) c.in-Some-first_place.alternatives.now c.args.picks.now c.in-Some-first_place.others.now (maybe_schema c.args.schema.now c.in-Maybe.inside c.deref-in-Maybe.result.now c.in-Maybe.is c.deref-in-Maybe.ensures.value) c.in-Some-first_place.ensures c.requires.places) in (
+      search (rules, the_lemmas),
+      (
+        kept.0,
+        (
+          are_made_grown c.and-in-Maybe.ensures.grown c.requires.literals_made,
+          (
+            c.in_ok-met-in-Maybe.ensures.ok.made,
+            picks_made_grown c.and-in-Maybe.ensures.grown (picks_made_others c.args.picks.now c.in-Some-first_place.others.now c.in-Some-first_place.alternatives.now c.in-Some-first_place.ensures c.requires.picks_made),
+          ),
+        ),
+      ),
+    )
 
 pub push_schema-returns-in_ok-comparison-in-Constrain-clause-each : goal.push_schema-returns-in_ok-comparison-in-Constrain-clause-each
 push_schema-returns-in_ok-comparison-in-Constrain-clause-each t c = on_ok_weaker c.push_literal.result

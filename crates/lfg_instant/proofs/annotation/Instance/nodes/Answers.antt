@@ -1,4 +1,4 @@
-use Rattle.std.proofs.Common.{refl, sym, length, rules, arith}
+use Rattle.std.proofs.Common.{refl, rules, arith}
 use Rattle.std.proofs.lemmas.Option.{slice_get_read}
 use Rattle.lfg_context.proofs.Growing.{are_made_grown, made_grown, grown_refl, grown_trans, same_picks_refl, same_picks_trans}
 use Rattle.lfg_instant.specs.Annotations.{instance_of}
@@ -20,9 +20,9 @@ loop-number-init c = record {
 pub loop-number-preserved : goal.loop-number-preserved
 loop-number-preserved c = record {
   each = strings_step (instance_of c.args.self.now) c.args.des.now c.in-Some.alternatives.now c.args.ctx.now c.loop-number.number _ c.loop-number.found.items c.push-in-loop-number.new.self.items
-    c.index-alternatives-number.result c.in_ok-met.met c.in_ok-node-2.field-0
-    (slice_get_read c.in-Some.alternatives.now _ c.loop-number.number c.index-alternatives-number.result refl c.loop-number-test.true c.index-alternatives-number.is)
-    c.in_ok-met.ensures.ok.members c.in_ok-node-2.ensures c.in_ok-push-2.ensures.items (omega arith) c.loop-number.invariant.each;
+      c.index-alternatives-number.result c.in_ok-met.met c.in_ok-node-2.field-0
+      (slice_get_read c.in-Some.alternatives.now _ c.loop-number.number c.index-alternatives-number.result refl c.loop-number-test.true c.index-alternatives-number.is)
+      c.in_ok-met.ensures.ok.members c.in_ok-node-2.ensures c.in_ok-push-2.ensures.items (omega arith) c.loop-number.invariant.each;
   count = search rules;
   made = made_pushed _ c.loop-number.found.items _ _ c.and.ensures.grown c.loop-number.invariant.made c.in_ok-met.ensures.ok.made c.in_ok-push-2.ensures.items;
   ctx_made = made_grown c.and.ensures.grown c.loop-number.invariant.ctx_made;

@@ -1,11 +1,10 @@
-use Rattle.std.proofs.Common.{length, drop, ◌+◌, refl, sym, ap, ◌∙◌, rules, arith}
+use Rattle.std.proofs.Common.{length, drop, ◌+◌, rules, arith}
 use Rattle.std.proofs.lemmas.List.{at_drop_all}
-use Rattle.lfg_terms.specs.declared.literal.Literal.TheVariants as literal
 use Rattle.lfg_model.specs.Places.{path_places, val_places}
 use Rattle.lfg_model.specs.Resolve.{node_of, equation}
 use Rattle.lfg_context.proofs.Growing.{are_made_grown, grown_trans, same_picks_trans}
 use Rattle.lfg_instant.specs.Annotations.{instance_of}
-use Rattle.lfg_packed.specs.Sizes.{string_count, val_strings}
+use Rattle.lfg_packed.specs.Sizes.{val_strings}
 use Rattle.lfg_instant.proofs.AppendLaws.{each_next, each_finished, each_done, drop_next, counted_more, counted_few}
 use Rattle.lfg_instant.proofs.MadeLaws.{picks_made_grown, picks_made_before, picks_made_behind}
 use Rattle.lfg_instant.proofs.PickLaws.{arities_before, arities_behind}

@@ -1,12 +1,11 @@
 use Rattle.std.proofs.Common.{◌≡◌, ◌+◌, ◌*◌, List, length, drop}
 use Rattle.lfg_terms.specs.declared.literal.Literal.{Literal}
-use Rattle.lfg_terms.specs.declared.literal.Literal.TheVariants as literal
-use Rattle.lfg_model.specs.Places.{path_places, val_places}
-use Rattle.lfg_model.specs.Resolve.{node_of, equation}
+use Rattle.lfg_model.specs.Places.{val_places}
+use Rattle.lfg_model.specs.Resolve.{equation}
 use Rattle.lfg_context.specs.Seen.{Set}
-use Rattle.lfg_context.specs.Sets.{AreMade, IsMade, IsGrown, HasSamePicks}
+use Rattle.lfg_context.specs.Sets.{AreMade, IsGrown, HasSamePicks}
 use Rattle.lfg_instant.specs.Annotations.{instance_of, ArePicksMade}
-use Rattle.lfg_packed.specs.Sizes.{string_count, val_strings}
+use Rattle.lfg_packed.specs.Sizes.{val_strings}
 use Rattle.lfg_instant.proofs.AppendLaws.{AppendsEach}
 use Rattle.lfg_instant.proofs.annotation.Instance.push_definition.Given as goal
 

@@ -1,4 +1,4 @@
-use Rattle.std.proofs.Common.{length, drop, ◌+◌, rules, arith}
+use Rattle.std.proofs.Common.{drop, ◌+◌, rules, arith}
 use Rattle.std.proofs.lemmas.List.{at_drop_all}
 use Rattle.lfg_terms.specs.declared.literal.Literal.TheVariants as literal
 use Rattle.lfg_model.specs.Places.{path_places}
