@@ -16,6 +16,7 @@ pub mod MadeLaws
 pub mod PickLaws
 pub mod SetLaws
 pub mod SiteLaws
+pub mod SiteLiterals
 pub mod StepLaws
 pub mod StringLaws
 pub mod TakenLaws
