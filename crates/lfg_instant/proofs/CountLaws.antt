@@ -2,7 +2,6 @@
 -- one number.
 use Rattle.std.proofs.Common.{◌≡◌, ℕ, ◌+◌, ◌-◌, ◌^◌, ◌<◌, ◌≤◌, min, max, List, [], ◌∷◌, map, length, refl, sym, ap, ◌∙◌, arith}
 use Rattle.std.specs.List.{sum_by, flat_map}
-use Rattle.std.specs.List.Sorted.{IsPermutation}
 use Rattle.std.specs.Ordering.{on}
 use Rattle.std.proofs.lemmas.Cmp.{on_total}
 use Rattle.std.proofs.lemmas.List.Sorted.{sum_by-IsPermutation}
@@ -10,7 +9,6 @@ use Rattle.std.proofs.lemmas.List.Sums.{sum_by-cons}
 use Rattle.lfg_terms.specs.Order.{fact_cmp}
 use Rattle.lfg_terms.specs.OrderLaws.{fact_cmp_total}
 use Rattle.lfg_terms.specs.declared.node.Fact.{Fact}
-use Rattle.lfg_terms.specs.declared.literal.Site.{Site}
 use Rattle.lfg_terms.specs.declared.grammar.Grammar.{Grammar}
 use Rattle.lfg_terms.specs.declared.tree.TokenForms.{TokenForms}
 use Rattle.lfg_model.specs.Lists.{In, Once, Lists}

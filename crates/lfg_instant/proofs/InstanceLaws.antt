@@ -126,7 +126,7 @@ listed_holding {X} {Y} f (x ∷ xs) (set ∷ sets) a = go (member set a) refl (l
 -- ---- the items and entries that hold are those of the picked derivation
 
 module _ (g : Grammar) (s : List TokenForms) (loaded : Loaded g) (cs : List PlacedChoice) (choices : AreChoices g s cs) (chart : ChartForm) (is_chart : IsChart g s chart.edges chart.forks)
-         (lists : List (List ℕ)) (entries : AreEntryLists g s chart.edges lists) (a : Assignment) (d : Tree) (picked : IsPickedBy g s cs a d) where
+    (lists : List (List ℕ)) (entries : AreEntryLists g s chart.edges lists) (a : Assignment) (d : Tree) (picked : IsPickedBy g s cs a d) where
   abbrev pub chosen : Selection
   chosen = selected g s cs chart lists a
 

@@ -31,9 +31,11 @@ picks_all a f k [] (n ∷ ns) l h = absurd (let no : 0 ≡ suc (length ns) = l i
 picks_all a f k (xs ∷ sets) [] l h = absurd (let no : suc (length sets) ≡ 0 = l in omega arith)
 picks_all a f k (xs ∷ sets) (n ∷ ns) l h =
     let P : ℕ → Type 0 = λ z. IsPick xs a (f z) in
-    let z : k + 0 ≡ k = omega arith in
-    (subst P z (h 0 xs refl), picks_all a f (k + 1) sets ns (omega arith) (λ j ys e. (let Q : ℕ → Type 0 = λ w. IsPick ys a (f w) in
-      let m : k + suc j ≡ k + 1 + j = omega arith in subst Q m (h (suc j) ys e))))
+    let z : k + 0 ≡ k = omega arith in (
+      subst P z (h 0 xs refl),
+      picks_all a f (k + 1) sets ns (omega arith) (λ j ys e. (let Q : ℕ → Type 0 = λ w. IsPick ys a (f w) in
+          let m : k + suc j ≡ k + 1 + j = omega arith in subst Q m (h (suc j) ys e))),
+    )
 
 -- one list more
 get_push : {X : Type 0} (xs : List X) (x : X) (i : ℕ) (y : X) → slice_get (xs ++ x ∷ []) i ≡ Some y → (slice_get xs i ≡ Some y) ⊎ ((i ≡ length xs) × (y ≡ x))
@@ -50,10 +52,12 @@ pushed_each {X} P xs x n l h new i y e = elim (get_push xs x i y e) [
 ]
 
 pub picks_made_push : (k l : Known) (xs : List (List Set)) (ys : List Set) → IsGrown k l → ArePicksMade k xs → AreMade l (λ x. x) ys → ArePicksMade l (xs ++ ys ∷ [])
-picks_made_push k l xs ys g m one = record { each = λ zs i. elim (In-push_cases xs ys i) [
-  | inl old ↦ are_made_grown g (m.each zs old)
-  | inr same ↦ (let P : List Set → Type 0 = λ w. AreMade l (λ x. x) w in subst P (sym same) one)
-] }
+picks_made_push k l xs ys g m one = record {
+  each = λ zs i. elim (In-push_cases xs ys i) [
+    | inl old ↦ are_made_grown g (m.each zs old)
+    | inr same ↦ (let P : List Set → Type 0 = λ w. AreMade l (λ x. x) w in subst P (sym same) one)
+  ];
+}
 
 -- the lengths of the lists so far, and of one more
 pub lengths_more : (sets : List (List Set)) (ns : List ℕ) (xs : List Set) (k : ℕ) → k < length ns → map length sets ≡ take k ns → length xs ≡ get_or ns k 0 → map length (sets ++ xs ∷ []) ≡ take (k + 1) ns

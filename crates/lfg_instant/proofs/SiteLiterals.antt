@@ -51,7 +51,7 @@ picks_fit g s cs a at loaded choices is =
     let fit = (picks_stand g s loaded at is.0 is.1).0 in
     picks_within (λ k. alternative_at g s cs a (BranchAt at k)) 0 (places (annotation_at g at))
     (λ j n e. (let P : ℕ → Type 0 = λ z. alternative_at g s cs a (BranchAt at z) < n in let z : j ≡ 0 + j = omega arith in
-      subst P z (within g s cs a (BranchAt at j) n choices (is, e) (some_alternative is.0 (places (annotation_at g at)) fit j n e))))
+    subst P z (within g s cs a (BranchAt at j) n choices (is, e) (some_alternative is.0 (places (annotation_at g at)) fit j n e))))
 
 -- the item or entry of such a key
 pub its_site : (g : Grammar) (s : List TokenForms) (key : ChoiceKey) → IsSiteKey g s key → IsSite g s (site_of_key key) × (key ≡ site_key g s (site_of_key key))

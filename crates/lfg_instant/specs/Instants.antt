@@ -17,13 +17,9 @@ use Rattle.lfg_model.specs.Trees.{literals, tree_facts}
 use Rattle.lfg_packed.specs.Assignments.{IsPickedBy}
 use Rattle.lfg_packed.specs.Choices.{PlacedChoice, AreChoices, choice_of}
 use Rattle.lfg_packed.specs.Counts.{IsLiteralCount, IsTreeFact, IsInstanceCount}
+use Rattle.lfg_instant.specs.Holding.{holding}
 use Rattle.lfg_instant.specs.declared.fault.InstantFault.{InstantFault}
 use Rattle.lfg_instant.specs.declared.fault.InstantFault.TheVariants as fault
-
--- the things whose set has the assignment, in order
-abbrev pub holding : {X : Type 0} → List (X × Set) → Assignment → List X
-holding [] a = []
-holding (x ∷ xs) a = if member x.1 a then x.0 ∷ holding xs a else holding xs a
 
 -- the sentence has no whole derivation
 abbrev pub HasNoDerivation : Grammar → List TokenForms → Type 0

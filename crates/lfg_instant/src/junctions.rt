@@ -172,7 +172,10 @@ fn place_junctions(
 /// # Errors
 ///
 /// For want of memory; and where a number is past 32 bits.
-pub(crate) fn place_numbers(alloc: Global, schemata: &[Schema<Paths>]) -> Result<Vec<u32>, AllocError>
+pub(crate) fn place_numbers(
+    alloc: Global,
+    schemata: &[Schema<Paths>],
+) -> Result<Vec<u32>, AllocError>
     ensures { IfOk result (λ it. it.items ≡ places (annotation_of schemata.now)) }
 {
     let numbers = place_arities(alloc, schemata)?;

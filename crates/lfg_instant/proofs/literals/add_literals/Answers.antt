@@ -25,6 +25,6 @@ returns-clause-each c = λ a.
     let P : List (List Set) → Type 0 = λ z. ArePicks z a (picks_at g s cs a at) in
     let picked = subst P (sym c.deref-2.ensures.value) (c.in_ok-sets.ensures.each at its.1 numbers a) in
     one_site g s cs a key (annotation_of c.schemata_at-schemata.result.now) (record { up = key.edge; down = c.in_ok-down.down; site = c.in_ok-site.site }) c.deref-2.result.now c.args.ctx.now c.args.literals.now.items c.push_instances.new.literals.items
-      same (instance_is g key c.in_ok-down.down c.in_ok-site.site c.in_ok-site.ensures c.in_ok-down.ensures)
-      picked (picks_fit g s cs a at c.requires.loaded c.requires.junctions.choices its.0)
-      (c.in_ok-push_instances.ensures.each (omega (arith, few, c.if-forms.false))))
+    same (instance_is g key c.in_ok-down.down c.in_ok-site.site c.in_ok-site.ensures c.in_ok-down.ensures)
+    picked (picks_fit g s cs a at c.requires.loaded c.requires.junctions.choices its.0)
+    (c.in_ok-push_instances.ensures.each (omega (arith, few, c.if-forms.false))))

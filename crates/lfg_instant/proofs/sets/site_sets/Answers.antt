@@ -61,4 +61,4 @@ returns-clause-each c = λ at e ns a.
     let many : length c.loop-place.sets.items ≡ c.loop-place.place = how_many c.loop-place.sets.items c.args.numbers.now c.loop-place.place c.loop-place.auto.place-end v.numbers in
     let len : length c.loop-place.sets.items ≡ length (places (annotation_at c.args.grammar.now at)) = many ∙ end ∙ ap (λ (zs : List ℕ). length zs) ns in
     picks_all a f 0 c.loop-place.sets.items (places (annotation_at c.args.grammar.now at)) len
-      (λ j xs h. (let P : ℕ → Type 0 = λ k. IsPick xs a (f k) in let z : j ≡ 0 + j = omega arith in subst P z (v.each at e a j xs h))))
+    (λ j xs h. (let P : ℕ → Type 0 = λ k. IsPick xs a (f k) in let z : j ≡ 0 + j = omega arith in subst P z (v.each at e a j xs h))))
