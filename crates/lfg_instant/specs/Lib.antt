@@ -1,0 +1,14 @@
+pub mod Annotations
+pub mod Collects
+pub mod Facts
+pub mod Flow
+pub mod Holding
+pub mod Instants
+pub mod JunctionOrder
+pub mod Junctions
+pub mod Literals
+pub mod Outlines
+pub mod Sites
+pub mod Sizes
+pub mod Steps
+pub mod Words

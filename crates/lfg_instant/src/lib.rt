@@ -1,0 +1,25 @@
+//! Every literal of a sentence in its context, and the choices of the sentence.
+#![tactic(auto)]
+
+mod annotation;
+mod counts;
+mod designators;
+mod entries;
+mod facts;
+mod fault;
+mod flow;
+mod junctions;
+pub mod laws;
+mod literals;
+mod picks;
+mod places;
+mod schemata;
+mod sets;
+mod sites;
+mod sizes;
+mod steps;
+#[cfg(test)]
+mod tests;
+mod words;
+
+pub use fault::InstantFault;
