@@ -1,5 +1,4 @@
-//! Worked examples that cross crates, with the calls that they share: from a grammar file and a line
-//! to the chart.
+//! Calls that cross crates: from a grammar file and a line to the chart of its words.
 #![tactic(auto)]
 
 mod charted;
