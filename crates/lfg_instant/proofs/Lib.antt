@@ -13,7 +13,11 @@ pub mod JunctionTies
 pub mod JunctionsHold
 pub mod LiteralLaws
 pub mod MadeLaws
+pub mod PassageLaws
 pub mod PickLaws
+pub mod PlaceLaws
+pub mod ReachedLaws
+pub mod ReachedTables
 pub mod SetLaws
 pub mod SiteLaws
 pub mod SiteLiterals
@@ -21,4 +25,5 @@ pub mod StepLaws
 pub mod StringLaws
 pub mod TakenLaws
 pub mod WalkLaws
+pub mod WayLaws
 pub mod WordLaws

@@ -11,4 +11,5 @@ pub mod Outlines
 pub mod Sites
 pub mod Sizes
 pub mod Steps
+pub mod Ways
 pub mod Words

@@ -11,8 +11,10 @@ mod flow;
 mod junctions;
 pub mod laws;
 mod literals;
+mod passages;
 mod picks;
 mod places;
+mod reached;
 mod schemata;
 mod sets;
 mod sites;
@@ -20,6 +22,7 @@ mod sizes;
 mod steps;
 #[cfg(test)]
 mod tests;
+mod ways;
 mod words;
 
 pub use fault::InstantFault;
