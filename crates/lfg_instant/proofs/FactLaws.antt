@@ -1,20 +1,17 @@
 -- The facts of steps and words are those of the trees of whole derivations.
-use Rattle.std.proofs.Common.{◌≡◌, ◌↔◌, ◌⊎◌, inl, inr, ℕ, Some, None, List, [], ◌∷◌, map, length, slice_get, sym, subst, ap, ◌∙◌, refl, arith, ◌<◌}
+use Rattle.std.proofs.Common.{◌≡◌, ◌↔◌, ◌⊎◌, inl, inr, ℕ, Some, List, length, slice_get, sym, subst, refl, arith, ◌<◌}
 use Rattle.std.proofs.lemmas.Option.{slice_get_within}
-use Rattle.lfg_terms.specs.Order.{fact_cmp}
 use Rattle.lfg_terms.specs.declared.node.Edge.{Edge}
 use Rattle.lfg_terms.specs.declared.node.Fact.{Fact}
 use Rattle.lfg_terms.specs.declared.grammar.Grammar.{Grammar}
 use Rattle.lfg_terms.specs.declared.tree.TokenForms.{TokenForms}
 use Rattle.lfg_chart.specs.Chart.{ChartForm}
 use Rattle.lfg_model.specs.declared.point.Point.{Point}
-use Rattle.lfg_model.specs.declared.point.Next.{Next}
 use Rattle.lfg_model.specs.declared.point.Next.TheVariants as next
-use Rattle.lfg_model.specs.Charts.{Fork, points_of, IsChart}
-use Rattle.lfg_model.specs.Lists.{In, Lists}
+use Rattle.lfg_model.specs.Charts.{Fork, IsChart}
+use Rattle.lfg_model.specs.Lists.{In}
 use Rattle.lfg_model.specs.Loaded.{Loaded}
-use Rattle.lfg_model.specs.Spots.{Spot, AnEdge, AStep, AWord, APick, Stands}
-use Rattle.lfg_model.proofs.ChartLaws.{Lists-same}
+use Rattle.lfg_model.specs.Spots.{AnEdge, AStep, AWord, APick, Stands}
 use Rattle.lfg_model.proofs.ListLaws.{In-nil, In_from_map}
 use Rattle.lfg_packed.specs.Counts.{IsTreeFact}
 use Rattle.lfg_packed.specs.SpotFacts.{category_at, under_facts, spot_facts}
@@ -24,7 +21,7 @@ use Rattle.lfg_instant.specs.declared.steps.Step.{Step}
 use Rattle.lfg_instant.specs.declared.steps.Word.{Word}
 use Rattle.lfg_instant.specs.Facts.{IsUnderOf, IsWordFactOf}
 use Rattle.lfg_instant.specs.Sites.{AreEntryLists}
-use Rattle.lfg_instant.specs.Steps.{IsStepOf, AreSteps, IsWordOf, AreWordsOf}
+use Rattle.lfg_instant.specs.Steps.{AreSteps, AreWordsOf}
 
 module _ (g : Grammar) (s : List TokenForms) (loaded : Loaded g) (chart : ChartForm) (is_chart : IsChart g s chart.edges chart.forks) (lists : List (List ℕ)) (are : AreEntryLists g s chart.edges lists)
     (steps : List Step) (are_steps : AreSteps chart.forks steps) (words : List Word) (are_words : AreWordsOf chart.edges lists words) where

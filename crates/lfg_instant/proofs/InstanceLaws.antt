@@ -1,31 +1,29 @@
 -- The literals and tree facts that hold at an assignment are those of the derivation that it picks.
-use Rattle.std.proofs.Common.{◌≡◌, ◌↔◌, ◌⊎◌, inl, inr, ℕ, zero, suc, ◌+◌, ◌<◌, ◌≤◌, Bool, true, false, Some, None, List, [], ◌∷◌, ◌++◌, map, length, drop, slice_get, if◌then◌else◌, sym, subst, ap, ◌∙◌, refl, arith}
+use Rattle.std.proofs.Common.{◌≡◌, ◌↔◌, ◌⊎◌, inl, inr, ℕ, zero, suc, ◌<◌, Bool, true, false, Some, List, [], ◌∷◌, ◌++◌, map, length, slice_get, if◌then◌else◌, sym, subst, ap, ◌∙◌, refl, arith}
 use Rattle.std.specs.List.{flat_map}
 use Rattle.std.specs.List.Sorted.{IsPermutation}
-use Rattle.std.proofs.lemmas.Bool.{false≢true}
 use Rattle.std.proofs.lemmas.Option.{same_Some, slice_get_within}
-use Rattle.lfg_terms.specs.Order.{fact_cmp, edge_cmp}
+use Rattle.lfg_terms.specs.Order.{fact_cmp}
 use Rattle.lfg_terms.specs.declared.node.Edge.{Edge}
 use Rattle.lfg_terms.specs.declared.node.Fact.{Fact}
 use Rattle.lfg_terms.specs.declared.literal.Site.{Site}
-use Rattle.lfg_terms.specs.declared.literal.Site.TheVariants as site
 use Rattle.lfg_terms.specs.declared.literal.Literal.{Literal}
 use Rattle.lfg_terms.specs.declared.grammar.Grammar.{Grammar}
 use Rattle.lfg_terms.specs.declared.tree.TokenForms.{TokenForms}
 use Rattle.lfg_chart.specs.Chart.{ChartForm}
 use Rattle.lfg_context.specs.Seen.{Set}
 use Rattle.lfg_context.specs.Sets.{Assignment, member}
-use Rattle.lfg_model.specs.Charts.{points_of, IsChart}
+use Rattle.lfg_model.specs.Charts.{IsChart}
 use Rattle.lfg_model.specs.Lists.{In, here, later, Once, none, more, Lists}
 use Rattle.lfg_model.specs.Loaded.{Loaded}
 use Rattle.lfg_model.specs.Picked.{Selection, IsReached, SiteReached, IsPicked}
 use Rattle.lfg_model.specs.Spots.{Spot, AnEdge, AStep, AWord, APick, spots_of, Stands}
 use Rattle.lfg_model.specs.Terms.{Tree}
 use Rattle.lfg_model.specs.Trees.{literals, tree_facts}
-use Rattle.lfg_model.proofs.ListLaws.{In-nil, In-one, In-cons_cases, In-map, In_from_map, In-flat_map, In_from_flat_map}
+use Rattle.lfg_model.proofs.ListLaws.{In-nil, In-one, In-cons_cases, In-flat_map, In_from_flat_map}
 use Rattle.lfg_model.proofs.ReachedLaws.{picked_is_reached}
 use Rattle.lfg_packed.specs.declared.key.ChoiceKey.{ChoiceKey}
-use Rattle.lfg_packed.specs.Choices.{IsSite, PlacedChoice, AreChoices, annotation_at}
+use Rattle.lfg_packed.specs.Choices.{IsSite, PlacedChoice, AreChoices}
 use Rattle.lfg_packed.specs.Assignments.{picks_at, IsPickedBy}
 use Rattle.lfg_packed.specs.Counts.{IsTreeFact}
 use Rattle.lfg_packed.specs.Layouts.{AreWords}
@@ -33,13 +31,13 @@ use Rattle.lfg_packed.specs.Picks.{spot_sites, sites_in}
 use Rattle.lfg_packed.specs.SpotFacts.{site_literals, spot_facts}
 use Rattle.lfg_packed.proofs.Listing.{In_get, get_In}
 use Rattle.lfg_packed.proofs.LoadedGives.{apart}
-use Rattle.lfg_packed.proofs.Selecting.{selection, picked_selected}
+use Rattle.lfg_packed.proofs.Selecting.{picked_selected}
 use Rattle.lfg_packed.proofs.SiteLaws.{literals_by_picks}
 use Rattle.lfg_packed.proofs.SpotLaws.{tree_facts_are_of_spots}
 use Rattle.lfg_instant.specs.Holding.{holding, beside}
 use Rattle.lfg_instant.specs.Literals.{listed_of}
-use Rattle.lfg_instant.specs.Outlines.{words_beside, selected, FactReached, AreSetsOf}
-use Rattle.lfg_instant.specs.Sites.{AreEntryLists, site_key, site_of_key, AreSiteKeys}
+use Rattle.lfg_instant.specs.Outlines.{words_beside, selected, FactReached}
+use Rattle.lfg_instant.specs.Sites.{AreEntryLists, site_of_key}
 
 -- ---- edges with their entries
 

@@ -8,6 +8,7 @@ pub mod FlowRounds
 pub mod FlowTables
 pub mod Holding
 pub mod InstanceLaws
+pub mod InstantiateLaws
 pub mod JunctionLaws
 pub mod JunctionTies
 pub mod JunctionsHold
@@ -15,6 +16,7 @@ pub mod LiteralLaws
 pub mod MadeLaws
 pub mod PassageLaws
 pub mod PickLaws
+pub mod PickedLaws
 pub mod PlaceLaws
 pub mod ReachedLaws
 pub mod ReachedTables
@@ -24,6 +26,7 @@ pub mod SiteLiterals
 pub mod StepLaws
 pub mod StringLaws
 pub mod TakenLaws
+pub mod TakenSets
 pub mod WalkLaws
 pub mod WayLaws
 pub mod WordLaws

@@ -13,13 +13,19 @@ use Rattle.lfg_packed.specs.declared.key.ChoiceKey.{ChoiceKey}
 use Rattle.lfg_instant.specs.declared.steps.Step.{Step}
 use Rattle.lfg_instant.specs.declared.steps.Word.{Word}
 use Rattle.lfg_instant.specs.Flow.{IsWithin, AreWithin}
-use Rattle.lfg_model.proofs.ListLaws.{In-nil, In-one}
+use Rattle.lfg_model.proofs.ListLaws.{In-nil, In-one, Contains_from_In, In_from_Contains}
+use Rattle.std.specs.List.Sorted.{IsPermutation}
+use Rattle.std.proofs.lemmas.List.Sorted.{Contains-permutation, IsPermutation-sym}
 use Rattle.lfg_instant.specs.declared.flow.Passage.{Passage}
 use Rattle.lfg_instant.specs.Collects.{Collects}
 use Rattle.lfg_instant.specs.Ways.{Thing, TheEdge, ThePoint, TheSite, TheFact, things_of, IsPlaceOf, ArePlacesOf, Joins, JoinsOneOf, ArePassages, ArePicks}
 use Rattle.lfg_instant.proofs.CollectLaws.{counted_more, collects_along}
 use Rattle.lfg_instant.proofs.PlaceLaws.{place_found}
 use Rattle.lfg_instant.proofs.WayLaws.{length_map}
+
+-- the same elements in another order
+pub from_permuted : {X : Type 0} (xs ys : List X) (x : X) → IsPermutation xs ys → In x ys → In x xs
+from_permuted xs ys x p i = In_from_Contains xs x (Contains-permutation ys xs x (IsPermutation-sym xs ys p) (Contains_from_In i))
 
 -- what each element of a list gives by its number
 module _ {X Y : Type 0} (us : List Y) (Q : ℕ → Y → X → Type 0) where

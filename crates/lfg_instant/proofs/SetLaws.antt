@@ -1,15 +1,14 @@
 -- The sets of the alternatives at the places of an annotation.
-use Rattle.std.proofs.Common.{◌≡◌, ℕ, zero, suc, ◌+◌, ◌<◌, Some, None, List, [], ◌∷◌, ◌++◌, length, map, take, get_or, ◌≤◌, slice_get, sym, subst, ap, ◌∙◌, refl, arith, inl, inr, ◌⊎◌}
-use Rattle.std.proofs.lemmas.Option.{same_Some, slice_get_within}
+use Rattle.std.proofs.Common.{◌≡◌, ℕ, zero, suc, ◌+◌, ◌<◌, Some, List, [], ◌∷◌, ◌++◌, length, map, take, get_or, ◌≤◌, slice_get, sym, subst, ap, ◌∙◌, refl, arith, inl, inr, ◌⊎◌}
+use Rattle.std.proofs.lemmas.Option.{same_Some}
 use Rattle.lfg_terms.specs.declared.literal.Site.{Site}
 use Rattle.lfg_terms.specs.declared.literal.Site.TheVariants as site
 use Rattle.lfg_terms.specs.declared.grammar.Grammar.{Grammar}
 use Rattle.lfg_terms.specs.declared.tree.TokenForms.{TokenForms}
 use Rattle.std.proofs.lemmas.List.{take_more}
 use Rattle.lfg_context.specs.Seen.{Set, Known}
-use Rattle.lfg_context.specs.Sets.{Assignment, member, AreMade, IsGrown}
+use Rattle.lfg_context.specs.Sets.{Assignment, AreMade, IsGrown}
 use Rattle.lfg_context.proofs.Growing.{are_made_grown}
-use Rattle.lfg_model.specs.Lists.{In}
 use Rattle.lfg_model.proofs.ListLaws.{In-push_cases}
 use Rattle.lfg_packed.specs.declared.key.ChoiceKey.{ChoiceKey}
 use Rattle.lfg_packed.specs.Assignments.{picks_from}

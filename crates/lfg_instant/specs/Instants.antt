@@ -1,6 +1,6 @@
 -- What the literals and tree facts of a sentence, each in its context, say of the derivations that
 -- assignments pick, and when there are too many of them.
-use Rattle.std.specs.Prelude.{◌≡◌, ◌↔◌, ℕ, ◌+◌, ◌<◌, ◌≤◌, List, [], ◌∷◌, length, map, if◌then◌else◌}
+use Rattle.std.specs.Prelude.{◌≡◌, ◌↔◌, ℕ, ◌+◌, ◌<◌, ◌≤◌, List, [], map}
 use Rattle.std.specs.List.Sorted.{IsPermutation}
 use Rattle.lfg_terms.specs.Order.{fact_cmp}
 use Rattle.lfg_terms.specs.declared.choice.Choice.{Choice}
@@ -8,8 +8,8 @@ use Rattle.lfg_terms.specs.declared.node.Fact.{Fact}
 use Rattle.lfg_terms.specs.declared.literal.Literal.{Literal}
 use Rattle.lfg_terms.specs.declared.grammar.Grammar.{Grammar}
 use Rattle.lfg_terms.specs.declared.tree.TokenForms.{TokenForms}
-use Rattle.lfg_context.specs.Seen.{Set, Known}
-use Rattle.lfg_context.specs.Sets.{Assignment, member, arity_of, HasPicksOf}
+use Rattle.lfg_context.specs.Seen.{Set}
+use Rattle.lfg_context.specs.Sets.{Assignment}
 use Rattle.lfg_model.specs.Derive.{Whole}
 use Rattle.lfg_model.specs.Lists.{In, Lists}
 use Rattle.lfg_model.specs.Terms.{Tree}
@@ -30,11 +30,6 @@ pub record AreSpaceOf (g : Grammar) (s : List TokenForms) (space : List Choice) 
   pub placed : List PlacedChoice
   pub all : AreChoices g s placed
   pub is : space ≡ map choice_of placed
-
--- These contexts have picked choices of the space alone, each with its number of alternatives there.
-pub record HavePickedOf (k : Known) (space : List Choice) : Type 0 where
-  pub agree : HasPicksOf k space
-  pub only : (c : ℕ) → length space ≤ c → arity_of k c ≡ 0
 
 -- The literals whose set has an assignment of the sentence's choices are those of the derivation that
 -- it picks, each as often as there; and none are where the sentence has no derivation.

@@ -8,6 +8,7 @@ pub mod JunctionOrder
 pub mod Junctions
 pub mod Literals
 pub mod Outlines
+pub mod Picked
 pub mod Sites
 pub mod Sizes
 pub mod Steps

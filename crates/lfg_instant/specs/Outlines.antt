@@ -3,13 +3,11 @@ use Rattle.std.specs.Prelude.{◌≡◌, ◌↔◌, ℕ, ◌+◌, true, Some, Li
 use Rattle.lfg_terms.specs.Order.{fact_cmp}
 use Rattle.lfg_terms.specs.declared.node.Edge.{Edge}
 use Rattle.lfg_terms.specs.declared.node.Fact.{Fact}
-use Rattle.lfg_terms.specs.declared.literal.Site.{Site}
 use Rattle.lfg_terms.specs.declared.grammar.Grammar.{Grammar}
 use Rattle.lfg_terms.specs.declared.tree.TokenForms.{TokenForms}
 use Rattle.lfg_chart.specs.Chart.{ChartForm}
 use Rattle.lfg_context.specs.Seen.{Set}
 use Rattle.lfg_context.specs.Sets.{Assignment, member}
-use Rattle.lfg_model.specs.declared.point.Point.{Point}
 use Rattle.lfg_model.specs.Charts.{points_of, IsChart}
 use Rattle.lfg_model.specs.Lists.{In, Lists}
 use Rattle.lfg_model.specs.Loaded.{Loaded}

@@ -8,8 +8,10 @@ mod entries;
 mod facts;
 mod fault;
 mod flow;
+mod instances;
 mod junctions;
 pub mod laws;
+mod layout;
 mod literals;
 mod passages;
 mod picks;
@@ -20,9 +22,11 @@ mod sets;
 mod sites;
 mod sizes;
 mod steps;
+mod taken;
 #[cfg(test)]
 mod tests;
 mod ways;
 mod words;
 
 pub use fault::InstantFault;
+pub use instances::{Instances, instantiate};

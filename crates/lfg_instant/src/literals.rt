@@ -1,7 +1,8 @@
 ghost use Rattle.std.specs.Prelude.{◌≡◌, ℕ, ◌+◌, ◌++◌, [], IfOk, OnOk, List, length, map, if◌then◌else◌};
 ghost use Rattle.std.specs.List.{sum_by};
-ghost use Rattle.lfg_context.specs.Sets.{Assignment, member, AreMade, IsMade, IsGrown, HasPicksOf};
+ghost use Rattle.lfg_context.specs.Sets.{Assignment, member, AreMade, IsMade, IsGrown};
 ghost use Rattle.lfg_instant.specs.Holding.{holding};
+ghost use Rattle.lfg_instant.specs.Picked.{HavePickedOf};
 ghost use Rattle.lfg_instant.specs.Junctions.{placed, AreJunctions};
 ghost use Rattle.lfg_instant.specs.Literals.{key_literals, key_size, IsSiteKey, listed_of};
 ghost use Rattle.lfg_instant.specs.Sites.{site_key, site_of_key};
@@ -68,7 +69,7 @@ fn below(grammar: &Grammar, key: &ChoiceKey) -> Result<Edge, AllocError>
 
 /// Adds the literals of an item or entry, each in the meet of its set and of the picks that it
 /// stands under.
-#[tactic(auto, using(lfg_context::proofs::Growing::growing))]
+#[tactic(auto, using(lfg_context::proofs::Growing::growing, crate::proofs::PickedLaws::picked))]
 fn add_literals(
     alloc: Global,
     grammar: &Grammar,
@@ -83,7 +84,7 @@ fn add_literals(
     requires loaded { Loaded grammar.now }
     requires junctions { AreJunctions grammar.now tokens.now junctions.now }
     requires space { space.now ≡ map choice_of (map placed junctions.now) }
-    requires picks { HasPicksOf contexts.old space.now }
+    requires picks { HavePickedOf contexts.old space.now }
     requires key { IsSiteKey grammar.now tokens.now key.now }
     requires ctx_made { IsMade contexts.old ctx.now }
     requires made { AreMade contexts.old (λ x. x.1) literals.old.items }
@@ -92,7 +93,7 @@ fn add_literals(
     ensures count { OnOk result (length literals.new.items ≡ length literals.old.items + key_size grammar.now key.now) }
     ensures made { AreMade contexts.new (λ x. x.1) literals.new.items }
     ensures grown { IsGrown contexts.old contexts.new }
-    ensures picks { HasPicksOf contexts.new space.now }
+    ensures picks { HavePickedOf contexts.new space.now }
 {
     let schemata = schemata_at(grammar, key);
     // A number of forms past 32 bits is taken for want of memory.
@@ -115,7 +116,7 @@ fn add_literals(
 }
 
 /// The literals of items and entries, whose sets stand beside their keys.
-#[tactic(auto, using(lfg_context::proofs::Growing::growing))]
+#[tactic(auto, using(lfg_context::proofs::Growing::growing, crate::proofs::PickedLaws::picked))]
 pub(crate) fn literals_of(
     alloc: Global,
     grammar: &Grammar,
@@ -129,7 +130,7 @@ pub(crate) fn literals_of(
     requires loaded { Loaded grammar.now }
     requires junctions { AreJunctions grammar.now tokens.now junctions.now }
     requires space { space.now ≡ map choice_of (map placed junctions.now) }
-    requires picks { HasPicksOf contexts.old space.now }
+    requires picks { HavePickedOf contexts.old space.now }
     requires keys { (key : ChoiceKey) → In key keys.now → IsSiteKey grammar.now tokens.now key }
     requires len { length sets.now ≡ length keys.now }
     requires made { AreMade contexts.old (λ x. x) sets.now }
@@ -138,7 +139,7 @@ pub(crate) fn literals_of(
     ensures count { IfOk result (λ literals. length literals.items ≡ sum_by (key_size grammar.now) keys.now) }
     ensures made { IfOk result (λ literals. AreMade contexts.new (λ x. x.1) literals.items) }
     ensures grown { IsGrown contexts.old contexts.new }
-    ensures picks { HasPicksOf contexts.new space.now }
+    ensures picks { HavePickedOf contexts.new space.now }
 {
     let mut literals = Vec::new(alloc);
     for (place, key) in keys.iter().enumerate() {

@@ -1,7 +1,8 @@
-ghost use Rattle.std.specs.Prelude.{◌≡◌, ◌+◌, ◌<◌, ◌≤◌, [], ◌∷◌, Some, IfOk, OnOk, length, slice_get};
+ghost use Rattle.std.specs.Prelude.{◌≡◌, ◌↔◌, ◌+◌, ◌<◌, ◌≤◌, [], ◌∷◌, Some, IfOk, OnOk, length, slice_get};
 ghost use Rattle.lfg_model.specs.Lists.{In};
 ghost use Rattle.lfg_model.specs.Spots.{point};
 ghost use Rattle.lfg_instant.specs.Collects.{Collects};
+ghost use Rattle.lfg_instant.specs.declared.flow.Passage.{Passage};
 ghost use Rattle.lfg_instant.specs.Ways.{TheEdge, ThePoint, things_of, AreInOrder, Joins, JoinsOneOf, step_things, word_things, IsStart, IsOverStep, IsToEntry, ArePassages};
 
 use crate::flow::Passage;
@@ -146,6 +147,33 @@ fn add_words(
     Ok(())
 }
 
+/// For each edge, and then for each point, the place of the edge.
+fn edge_places(alloc: Global, outline: &Outline) -> Result<Vec<usize>, AllocError> {
+    let mut places = Vec::new(alloc);
+    for place in 0..outline.chart.edges().len() {
+        places.push(place)?;
+    }
+    for point in outline.chart.points() {
+        places.push(edge_place(outline, &point.edge).unwrap_or(0))?;
+    }
+    Ok(places)
+}
+
+/// The same passages, those of one edge after the other. So they mostly lead down from the root, and
+/// few rounds over them are enough: only an edge over the whole span of its mother may come first.
+fn downwards(
+    alloc: Global,
+    outline: &Outline,
+    passages: Vec<Passage>,
+) -> Result<Vec<Passage>, AllocError>
+    ensures { IfOk result (λ sorted. (p : Passage) → In p sorted.items ↔ In p passages.items) }
+{
+    let places = edge_places(alloc, outline)?;
+    let mut sorted = passages;
+    sorted.sort_by(|one, other| places.get(one.from).cmp(&places.get(other.from)))?;
+    Ok(sorted)
+}
+
 /// All passages of a sentence.
 pub(crate) fn passages_of(
     alloc: Global,
@@ -161,5 +189,6 @@ pub(crate) fn passages_of(
     add_starts(alloc, outline, &mut passages)?;
     add_steps(alloc, outline, steps, 1, &mut passages)?;
     add_words(alloc, outline, words, 1 + steps.len(), &mut passages)?;
-    Ok(passages)
+    let sorted = downwards(alloc, outline, passages)?;
+    Ok(sorted)
 }

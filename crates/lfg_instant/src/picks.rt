@@ -1,9 +1,10 @@
 ghost use Rattle.std.specs.Prelude.{◌≡◌, ◌==◌, ℕ, ◌<◌, ◌≤◌, [], IfOk, OnOk, length, map};
-ghost use Rattle.lfg_context.specs.Sets.{IsGrown, IsSetOf, HasPicksOf};
+ghost use Rattle.lfg_context.specs.Sets.{IsGrown, IsSetOf};
 ghost use Rattle.lfg_model.specs.Lists.{In};
 ghost use Rattle.lfg_packed.specs.Assignments.{alternative_at};
 ghost use Rattle.lfg_packed.specs.ChoicePoints.{ChoicePoint, key_of, kind_of};
 ghost use Rattle.lfg_packed.specs.Choices.{choice_of};
+ghost use Rattle.lfg_instant.specs.Picked.{HavePickedOf};
 ghost use Rattle.lfg_instant.specs.Junctions.{place_of_key, placed, AreJunctions, IsPlaceKey};
 ghost use Rattle.lfg_instant.specs.declared.junctions.Junction.{Junction};
 
@@ -54,7 +55,7 @@ pub(crate) fn push_choices(
 /// # Errors
 ///
 /// For want of memory; and where a number is past 32 bits.
-#[tactic(auto, using(lfg_context::proofs::Growing::growing))]
+#[tactic(auto, using(lfg_context::proofs::Growing::growing, crate::proofs::PickedLaws::picked))]
 pub(crate) fn pick(
     grammar: &Grammar,
     tokens: &[TokenForms],
@@ -67,12 +68,12 @@ pub(crate) fn pick(
 ) -> Result<Ctx, AllocError>
     requires junctions { AreJunctions grammar.now tokens.now junctions.now }
     requires space { space.now ≡ map choice_of (map placed junctions.now) }
-    requires picks { HasPicksOf contexts.old space.now }
+    requires picks { HavePickedOf contexts.old space.now }
     requires place { (x : ChoicePoint) × IsPlaceKey grammar.now tokens.now x key many number }
     ensures ok { IfOk result (λ set. (x : ChoicePoint) → key ≡ key_of grammar.now tokens.now x
         → IsSetOf contexts.new set (λ a. alternative_at grammar.now tokens.now (map placed junctions.now) a x == number)) }
     ensures grown { IsGrown contexts.old contexts.new }
-    ensures picks { HasPicksOf contexts.new space.now }
+    ensures picks { HavePickedOf contexts.new space.now }
 {
     if many < 2 {
         return Ok(contexts.yes());

@@ -1,6 +1,7 @@
 ghost use Rattle.std.specs.Prelude.{◌≡◌, ℕ, ◌<◌, Some, IfOk, List, length, map, slice_get};
-ghost use Rattle.lfg_context.specs.Sets.{Assignment, AreMade, IsGrown, HasPicksOf};
+ghost use Rattle.lfg_context.specs.Sets.{Assignment, AreMade, IsGrown};
 ghost use Rattle.lfg_instant.specs.Annotations.{ArePicks, IsPick, ArePicksMade};
+ghost use Rattle.lfg_instant.specs.Picked.{HavePickedOf};
 ghost use Rattle.lfg_instant.specs.Junctions.{placed, AreJunctions};
 ghost use Rattle.lfg_instant.specs.Sites.{site_key};
 ghost use Rattle.lfg_model.specs.Places.{places};
@@ -37,7 +38,7 @@ fn place_key(key: &ChoiceKey, place: usize) -> Result<ChoiceKey, AllocError>
 }
 
 /// The sets of the alternatives at one place in the annotation of an item or entry.
-#[tactic(auto, using(lfg_context::proofs::Growing::growing))]
+#[tactic(auto, using(lfg_context::proofs::Growing::growing, crate::proofs::PickedLaws::picked))]
 fn place_sets(
     alloc: Global,
     grammar: &Grammar,
@@ -51,14 +52,14 @@ fn place_sets(
 ) -> Result<List<Ctx>, AllocError>
     requires junctions { AreJunctions grammar.now tokens.now junctions.now }
     requires space { space.now ≡ map choice_of (map placed junctions.now) }
-    requires picks { HasPicksOf contexts.old space.now }
+    requires picks { HavePickedOf contexts.old space.now }
     requires at { (at : Site) × IsSite grammar.now tokens.now at × (key.now ≡ site_key grammar.now tokens.now at) × (slice_get (places (annotation_at grammar.now at)) place ≡ Some many) }
     ensures each { IfOk result (λ sets. (at : Site) → key.now ≡ site_key grammar.now tokens.now at → (a : Assignment)
         → IsPick sets a (alternative_at grammar.now tokens.now (map placed junctions.now) a (BranchAt at place))) }
     ensures len { IfOk result (λ sets. length sets ≡ many) }
     ensures made { IfOk result (λ sets. AreMade contexts.new (λ x. x) sets) }
     ensures grown { IsGrown contexts.old contexts.new }
-    ensures picks { HasPicksOf contexts.new space.now }
+    ensures picks { HavePickedOf contexts.new space.now }
 {
     let mut sets = Vec::new(alloc);
     for number in 0..many {
@@ -80,7 +81,7 @@ fn place_sets(
 }
 
 /// The sets of the alternatives at all places in the annotation of an item or entry.
-#[tactic(auto, using(lfg_context::proofs::Growing::growing))]
+#[tactic(auto, using(lfg_context::proofs::Growing::growing, crate::proofs::PickedLaws::picked))]
 pub(crate) fn site_sets(
     alloc: Global,
     grammar: &Grammar,
@@ -93,14 +94,14 @@ pub(crate) fn site_sets(
 ) -> Result<Vec<List<Ctx>>, AllocError>
     requires junctions { AreJunctions grammar.now tokens.now junctions.now }
     requires space { space.now ≡ map choice_of (map placed junctions.now) }
-    requires picks { HasPicksOf contexts.old space.now }
+    requires picks { HavePickedOf contexts.old space.now }
     requires at { (at : Site) × IsSite grammar.now tokens.now at × (key.now ≡ site_key grammar.now tokens.now at) × (numbers.now ≡ places (annotation_at grammar.now at)) }
     ensures each { IfOk result (λ sets. (at : Site) → key.now ≡ site_key grammar.now tokens.now at → numbers.now ≡ places (annotation_at grammar.now at)
         → (a : Assignment) → ArePicks sets.items a (picks_at grammar.now tokens.now (map placed junctions.now) a at)) }
     ensures numbers { IfOk result (λ sets. map length sets.items ≡ numbers.now) }
     ensures made { IfOk result (λ sets. ArePicksMade contexts.new sets.items) }
     ensures grown { IsGrown contexts.old contexts.new }
-    ensures picks { HasPicksOf contexts.new space.now }
+    ensures picks { HavePickedOf contexts.new space.now }
 {
     let mut sets = Vec::new(alloc);
     for (place, many) in numbers.iter().enumerate() {

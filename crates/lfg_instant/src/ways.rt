@@ -20,6 +20,7 @@ use std::alloc::{AllocError, Global};
 
 /// A sentence with its chart, the keys of its items and entries, and the facts of its trees. Each of
 /// these things has a place, counted from 0: first the edges, then the points, the keys, the facts.
+#[derive(Drop)]
 pub(crate) struct Outline<'a> {
     pub(crate) grammar: &'a Grammar,
     pub(crate) tokens: &'a [TokenForms],

@@ -5,6 +5,7 @@ mod RowLaws
 mod Sames
 mod SweepLaws
 mod SettleLaws
+mod ClassLaws
 mod MarkLaws
 mod StepLaws
 mod Transfer

@@ -134,13 +134,13 @@ stands_one row n d a y h s = record { set = s.set; listed = In-take_one row n d 
 stands_last : (row : Row) (n : ℕ) (d : ℕ × Set) (a : Assignment) → n < length row → d ≡ get_or row n d → member d.1 a ≡ true → Stands (take (n + 1) row) a d.0
 stands_last row n d a h e m = record { set = d.1; listed = (let P : (ℕ × Set) → Type 0 = λ v. In v (take (n + 1) row) in subst P (sym e) (In-take_last row n d h)); holds = m }
 
-stands_more : (row : Row) (n : ℕ) (d : ℕ × Set) (a : Assignment) (y : ℕ) → n < length row → d ≡ get_or row n d → Stands (take (n + 1) row) a y → Stands (take n row) a y ⊎ ((y ≡ d.0) × (member d.1 a ≡ true))
+pub stands_more : (row : Row) (n : ℕ) (d : ℕ × Set) (a : Assignment) (y : ℕ) → n < length row → d ≡ get_or row n d → Stands (take (n + 1) row) a y → Stands (take n row) a y ⊎ ((y ≡ d.0) × (member d.1 a ≡ true))
 stands_more row n d a y h e s = elim (In-take_more row n d h s.listed) [
   | inl i ↦ inl (record { set = s.set; listed = i; holds = s.holds })
   | inr f ↦ (let g : ◌≡◌ {A = ℕ × Set} (y, s.set) d = f ∙ sym e in inr (ap (λ r. r.0) g, sym (ap (λ r. member r.1 a) g) ∙ s.holds))
 ]
 
-at_place : (row : Row) (a : Assignment) (i j : ℕ) → i ≡ j → Stands row a i → Stands row a j
+pub at_place : (row : Row) (a : Assignment) (i j : ℕ) → i ≡ j → Stands row a i → Stands row a j
 at_place row a i j e s = subst (λ (n : ℕ). Stands row a n) e s
 
 -- ---- taking a row
@@ -226,13 +226,13 @@ growth_trans arcs x y z g h = record {
 }
 
 -- where one row alone grew
-one_row : (old new : List Row) (i : ℕ) (a : Assignment) (x y : ℕ) → ((x : ℕ) → x ≢ i → row_of new x ≡ row_of old x) → Has new a x y → (Has old a x y) ⊎ ((x ≡ i) × Stands (row_of new i) a y)
+pub one_row : (old new : List Row) (i : ℕ) (a : Assignment) (x y : ℕ) → ((x : ℕ) → x ≢ i → row_of new x ≡ row_of old x) → Has new a x y → (Has old a x y) ⊎ ((x ≡ i) × Stands (row_of new i) a y)
 one_row old new i a x y others h = elim (nat_cases x i) [
   | inl e ↦ inr (e, subst (λ (n : ℕ). Has new a n y) e h)
   | inr n ↦ inl (subst (λ (r : Row). Stands r a y) (others x n) h)
 ]
 
-one_kept : (old new : List Row) (i : ℕ) (a : Assignment) (x y : ℕ) → ((x : ℕ) → x ≢ i → row_of new x ≡ row_of old x) → (Stands (row_of old i) a y → Stands (row_of new i) a y) → Has old a x y → Has new a x y
+pub one_kept : (old new : List Row) (i : ℕ) (a : Assignment) (x y : ℕ) → ((x : ℕ) → x ≢ i → row_of new x ≡ row_of old x) → (Stands (row_of old i) a y → Stands (row_of new i) a y) → Has old a x y → Has new a x y
 one_kept old new i a x y others keep h = elim (nat_cases x i) [
   | inl e ↦ subst (λ (n : ℕ). Has new a n y) (sym e) (keep (subst (λ (n : ℕ). Has old a n y) e h))
   | inr n ↦ subst (λ (r : Row). Stands r a y) (sym (others x n)) h

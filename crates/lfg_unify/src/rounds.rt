@@ -51,7 +51,7 @@ fn take_row(
 }
 
 /// A copy of the row, which shares its contexts.
-fn copied(alloc: Global, row: &[(usize, Ctx)]) -> Result<Vec<(usize, Ctx)>, AllocError>
+pub(crate) fn copied(alloc: Global, row: &[(usize, Ctx)]) -> Result<Vec<(usize, Ctx)>, AllocError>
     ensures { IfOk result (λ copy. copy.items ≡ row.now) }
 {
     let mut copy = Vec::new(alloc);

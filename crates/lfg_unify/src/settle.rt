@@ -6,6 +6,7 @@ ghost use Rattle.lfg_unify.specs.declared.system.System.{System};
 ghost use Rattle.lfg_unify.specs.Rows.{AreRows};
 ghost use Rattle.lfg_unify.specs.Systems.{AddsGiven, AddsThere, AreLinked, AreSystemSets, AreWithin, HasEqual, HasRounds, IsClosed, IsGrowth, IsJoined, IsSystem, Solves};
 
+use crate::classes::merge_all;
 use crate::rounds::{join_all, link_all};
 use crate::system::{Arc, System};
 use crate::table::Table;
@@ -152,7 +153,8 @@ fn place_given(
     Ok(())
 }
 
-/// The pairs of equal places of the system, in the contexts in which they are equal.
+/// The pairs of equal places of the system, in the contexts in which they are equal. Classes are made
+/// one by one; the rounds behind find that nothing is missing.
 #[tactic(auto, using(crate::proofs::RowLaws::rows))]
 pub(crate) fn solve(
     alloc: Global,
@@ -173,6 +175,7 @@ pub(crate) fn solve(
     place_there(&mut table, &system.there, contexts)?;
     place_given(&mut table, &system.given, contexts)?;
     let arcs = system.arcs.as_slice();
+    merge_all(alloc, &mut table, &system.given, arcs, &empty, contexts)?;
     settle(
         alloc,
         &mut table,

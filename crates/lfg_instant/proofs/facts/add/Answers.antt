@@ -1,8 +1,7 @@
-use Rattle.std.proofs.Common.{◌≡◌, ◌⊎◌, inl, inr, Some, None, List, [], ◌∷◌, sym, subst}
+use Rattle.std.proofs.Common.{◌≡◌, [], ◌∷◌, sym, subst}
 use Rattle.lfg_terms.specs.declared.node.Fact.{Fact}
 use Rattle.lfg_model.specs.Lists.{In, here}
 use Rattle.lfg_model.proofs.ListLaws.{In-nil, In-one}
-use Rattle.lfg_instant.specs.Facts.{as_list}
 use Rattle.lfg_instant.proofs.CollectLaws.{collects_along, collects_one, collects_none}
 use Rattle.lfg_instant.proofs.facts.add.Goals as goal
 

@@ -1,6 +1,5 @@
-use Rattle.std.proofs.Common.{◌≡◌, ◌↔◌, ◌⊎◌, inl, inr, List, [], subst, sym}
+use Rattle.std.proofs.Common.{◌⊎◌, List, [], subst}
 use Rattle.lfg_terms.specs.declared.node.Fact.{Fact}
-use Rattle.lfg_model.specs.Lists.{In}
 use Rattle.lfg_model.proofs.ChartLaws.{Lists-same}
 use Rattle.lfg_instant.specs.Collects.{Collects}
 use Rattle.lfg_instant.specs.Facts.{IsUnderOf, IsWordFactOf}

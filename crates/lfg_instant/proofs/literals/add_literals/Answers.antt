@@ -1,9 +1,8 @@
-use Rattle.std.proofs.Common.{◌≡◌, ◌+◌, ◌∙◌, List, ap, sym, subst, arith}
+use Rattle.std.proofs.Common.{◌∙◌, List, ap, sym, subst, arith}
 use Rattle.lfg_context.specs.Seen.{Set}
 use Rattle.lfg_packed.specs.Assignments.{picks_at}
 use Rattle.lfg_instant.specs.Annotations.{ArePicks}
 use Rattle.lfg_instant.specs.Sites.{site_of_key}
-use Rattle.lfg_instant.specs.Annotations.{instance_of}
 use Rattle.lfg_instant.specs.Junctions.{placed}
 use Rattle.std.specs.Prelude.{map}
 use Rattle.lfg_model.specs.Places.{places}

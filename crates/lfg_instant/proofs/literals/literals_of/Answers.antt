@@ -1,5 +1,5 @@
-use Rattle.std.proofs.Common.{◌≡◌, ◌+◌, ◌<◌, ◌++◌, List, [], length, map, sym, subst, ap, ◌∙◌, arith, if◌then◌else◌}
-use Rattle.lfg_context.specs.Sets.{Assignment, member}
+use Rattle.std.proofs.Common.{◌+◌, ◌<◌, ◌++◌, [], length, map, sym, subst, ap, ◌∙◌, arith, if◌then◌else◌}
+use Rattle.lfg_context.specs.Sets.{member}
 use Rattle.lfg_context.proofs.Growing.{grown_trans}
 use Rattle.lfg_model.proofs.ListLaws.{In-at}
 use Rattle.lfg_packed.specs.declared.key.ChoiceKey.{ChoiceKey}

@@ -1,13 +1,11 @@
-use Rattle.std.proofs.Common.{◌≡◌, ◌==◌, ℕ, ◌+◌, Some, List, ◌∷◌, ◌++◌, [], length, map, slice_get, sym, subst, arith, ap, ◌∙◌}
+use Rattle.std.proofs.Common.{◌≡◌, ◌==◌, ℕ, ◌+◌, Some, List, ◌∷◌, ◌++◌, [], length, map, slice_get, sym, subst, ap, ◌∙◌}
 use Rattle.std.proofs.lemmas.List.{length-append}
-use Rattle.lfg_terms.specs.declared.literal.Site.{Site}
 use Rattle.lfg_context.specs.Seen.{Set}
-use Rattle.lfg_context.specs.Sets.{Assignment, member, AreMade}
+use Rattle.lfg_context.specs.Sets.{member, AreMade}
 use Rattle.lfg_context.proofs.Growing.{grown_trans, are_made_grown, are_made_push}
 use Rattle.lfg_packed.specs.Assignments.{alternative_at}
 use Rattle.lfg_packed.specs.ChoicePoints.{BranchAt}
 use Rattle.lfg_instant.specs.Junctions.{placed}
-use Rattle.lfg_instant.specs.Sites.{site_key}
 use Rattle.lfg_instant.proofs.SetLaws.{pushed_each}
 use Rattle.lfg_instant.proofs.sets.place_sets.Goals as goal
 

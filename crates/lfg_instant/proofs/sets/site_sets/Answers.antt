@@ -1,8 +1,6 @@
-use Rattle.std.proofs.Common.{◌≡◌, ◌==◌, ℕ, ◌+◌, ◌≤◌, Some, List, ◌∷◌, ◌++◌, [], length, map, take, get_or, slice_get, sym, subst, arith, ap, ◌∙◌, refl}
+use Rattle.std.proofs.Common.{◌≡◌, ℕ, ◌+◌, Some, List, ◌∷◌, ◌++◌, [], length, map, take, get_or, slice_get, sym, subst, arith, ap, ◌∙◌, refl}
 use Rattle.std.proofs.lemmas.Option.{slice_get-get_or}
-use Rattle.lfg_terms.specs.declared.literal.Site.{Site}
 use Rattle.lfg_context.specs.Seen.{Set}
-use Rattle.lfg_context.specs.Sets.{Assignment, member, AreMade}
 use Rattle.lfg_context.proofs.Growing.{grown_trans, grown_refl}
 use Rattle.lfg_model.proofs.ListLaws.{In-nil}
 use Rattle.lfg_model.specs.Places.{places}
@@ -11,7 +9,6 @@ use Rattle.lfg_packed.specs.Choices.{annotation_at}
 use Rattle.lfg_packed.specs.ChoicePoints.{BranchAt}
 use Rattle.lfg_instant.specs.Annotations.{IsPick, ArePicksMade}
 use Rattle.lfg_instant.specs.Junctions.{placed}
-use Rattle.lfg_instant.specs.Sites.{site_key}
 use Rattle.lfg_instant.proofs.SetLaws.{pushed_each, picks_made_push, lengths_more, how_many, picks_all}
 use Rattle.lfg_instant.proofs.sets.site_sets.Goals as goal
 

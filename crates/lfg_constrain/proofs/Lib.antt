@@ -1,0 +1,4 @@
+mod Classes
+mod SpotLaws
+mod WalkLaws
+mod CheckLaws

@@ -1,0 +1,15 @@
+use Rattle.std.proofs.Common.{◌≤◌, length, take}
+use Rattle.lfg_context.specs.Sets.{IsGrown, HasSamePicks}
+use Rattle.lfg_context.specs.Telling.{InSome}
+use Rattle.lfg_facts.specs.Adding.{Adds}
+use Rattle.lfg_facts.specs.Stating.{AreEntries, IsValueFact}
+use Rattle.lfg_facts.proofs.forms.push_values.Given as goal
+
+abbrev pub invariant-loop-number : goal.invariant-loop-number
+invariant-loop-number l = record {
+  grown : IsGrown l.fn.contexts l.contexts;
+  picks : HasSamePicks l.fn.contexts l.contexts;
+  facts : AreEntries l.contexts l.facts.items;
+  number : l.number ≤ length l.closure.values;
+  adds : Adds l.fn.facts.items l.facts.items (λ f. InSome (take l.number l.closure.values) (IsValueFact l.closure l.place l.names l.here f));
+}

@@ -1,0 +1,5 @@
+pub mod Entries
+pub mod Finding
+pub mod OneThing
+pub mod Picking
+pub mod Taking

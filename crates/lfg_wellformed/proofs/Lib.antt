@@ -1,0 +1,5 @@
+mod Classes
+mod AskedLaws
+mod Conditions
+mod Cycle
+mod StepLaws

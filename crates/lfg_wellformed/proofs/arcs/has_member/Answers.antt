@@ -1,0 +1,19 @@
+use Rattle.std.proofs.Common.{◌<◌, length, arith}
+use Rattle.lfg_context.proofs.Growing.{grown_trans, same_picks_trans, are_made_grown, made_at}
+use Rattle.lfg_context.proofs.Telling.{in_more, of_more}
+use Rattle.lfg_wellformed.proofs.Classes.{some_closure_grown, value_at, arc_at, member_at}
+use Rattle.lfg_wellformed.specs.Asked.{LeadsBy, IsMemberIn, IsFilling, NeedsFilled, NeedsArc, CompletesValue, CompletesArc, NamesAt, IsNaming, CoheresAt}
+use Rattle.lfg_wellformed.proofs.arcs.has_member.Goals as goal
+
+pub is_member-requires-clause-member : goal.is_member-requires-clause-member
+is_member-requires-clause-member c =
+    member_at c.members-members.result.now c.loop-number.number c.index-members-number.result (some_closure_grown c.loop-number.invariant.grown c.requires.closure) c.members-members.ensures (omega arith) c.index-members-number.is
+
+pub loop-number-preserved : goal.loop-number-preserved
+loop-number-preserved c = record {
+  grown = grown_trans (grown_trans c.loop-number.invariant.grown c.in_ok-one.ensures.grown) c.in_ok-found.ensures.grown;
+  picks = same_picks_trans (same_picks_trans c.loop-number.invariant.picks c.in_ok-one.ensures.picks) c.in_ok-found.ensures.picks;
+  made = c.in_ok-found.ensures.ok.made;
+  tells = in_more (IsMemberIn c.args.closure.now c.args.place) c.members-members.result.now c.loop-number.number c.index-members-number.result (omega arith) c.index-members-number.is c.loop-number.invariant.tells
+      (c.in_ok-one.ensures.tells) c.in_ok-found.ensures.ok.members;
+}

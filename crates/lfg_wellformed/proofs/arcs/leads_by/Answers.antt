@@ -1,0 +1,5 @@
+use Rattle.lfg_wellformed.proofs.Classes.{equal_at_result}
+use Rattle.lfg_wellformed.proofs.arcs.leads_by.Goals as goal
+
+pub and-requires-clause-b_made : goal.and-requires-clause-b_made
+and-requires-clause-b_made c = equal_at_result c.args.place c.args.from c.requires.closure c.equal_at.ensures
