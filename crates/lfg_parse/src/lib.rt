@@ -1,4 +1,13 @@
-//! The packed parse of a sentence; so far the laws that it stands on.
+//! The packed parse of a sentence.
 #![tactic(auto)]
 
+mod charted;
+mod fault;
+mod good;
+mod judging;
 pub mod laws;
+mod parsing;
+mod stores;
+
+pub use fault::ParseFault;
+pub use parsing::parse;
