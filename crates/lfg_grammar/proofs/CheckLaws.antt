@@ -3,7 +3,7 @@ use Rattle.std.proofs.Common.{◌≡◌, ℕ, inl, inr, List, map, refl, sym, su
 use Rattle.std.proofs.Common.{slice_index_or}
 use Rattle.lfg_terms.specs.declared.grammar.Grammar.{Grammar}
 use Rattle.lfg_terms.specs.declared.grammar.Rule.{Rule}
-use Rattle.lfg_model.specs.declared.status.GrammarFault.{GrammarFault}
+use Rattle.lfg_model.specs.declared.fault.GrammarFault.{GrammarFault}
 use Rattle.lfg_model.specs.Firsts.{First}
 use Rattle.lfg_model.specs.Graphs.{IsGraph}
 use Rattle.lfg_model.specs.Lists.{In, Once}

@@ -3,7 +3,7 @@ use Rattle.std.proofs.Common.{◌≡◌, ℕ, ◌⊎◌, inl, inr, List, [], ◌
 use Rattle.lfg_terms.specs.declared.grammar.Graph.{Graph}
 use Rattle.lfg_terms.specs.declared.grammar.Item.{Item}
 use Rattle.lfg_terms.specs.declared.grammar.Rule.{Rule}
-use Rattle.lfg_model.specs.declared.status.GrammarFault.{GrammarFault}
+use Rattle.lfg_model.specs.declared.fault.GrammarFault.{GrammarFault}
 use Rattle.lfg_model.specs.DraftForms.{RuleForm}
 use Rattle.lfg_model.specs.Lists.{In, here, later}
 use Rattle.lfg_model.proofs.ListLaws.{In-append_cases, In-one}

@@ -14,7 +14,7 @@ use Rattle.lfg_model.specs.RightSides.{DraftAnnotation, no_schema, draft_annotat
 use Rattle.lfg_model.specs.Templates.{Each, end, and}
 use Rattle.lfg_model.specs.TemplateRules.{calls}
 use Rattle.lfg_model.specs.Terms.{Name, Paths, same_name, annotation_of}
-use Rattle.lfg_model.specs.Thin.{empty_item}
+use Rattle.lfg_model.specs.Spelling.{empty_item}
 use Rattle.lfg_model.proofs.ListLaws.{In-append_left, In-append_right, In-flat_map, In_from_flat_map}
 use Rattle.lfg_grammar.specs.Answers.{NoCall, FailsIn, AreWithoutCalls, written_item}
 use Rattle.lfg_grammar.specs.Links.{IsDefault, bare_link}

@@ -10,7 +10,7 @@ use Rattle.lfg_model.specs.RightSides.{DraftSchema, DraftAnnotation, no_schema, 
 use Rattle.lfg_model.specs.Templates.{Binding, Becomes, defining, constraining, existential, membership, marked, disjunction, option, called, AllBecome, nothing, one_more, BranchesBecome, no_more, branch_more, SideBecomes, bare, annotated, in_row, in_branches, in_option, in_star, in_plus, SidesBecome, no_part, part_more, Each, RuleBecomes, ReadingBecomes, Expands}
 use Rattle.lfg_model.specs.TemplateRules.{Call, calls, schema_calls, branches_calls}
 use Rattle.lfg_model.specs.Terms.{Name, same_name}
-use Rattle.lfg_model.specs.Thin.{empty_item}
+use Rattle.lfg_model.specs.Spelling.{empty_item}
 use Rattle.lfg_model.proofs.AssemblyLaws.{each_back}
 use Rattle.lfg_model.proofs.ListLaws.{In-append_cases, In-map}
 use Rattle.lfg_grammar.specs.Answers.{NoCall, AreWithoutCalls}

@@ -2,8 +2,8 @@
 use Rattle.std.proofs.Common.{◌≡◌, ◌⊎◌, inl, inr, ℕ, Result, Ok, Err, List, refl, sym, ap}
 use Rattle.std.specs.Prelude.{IfOk, IfErr, IsOkUnless}
 use Rattle.lfg_terms.specs.declared.grammar.Grammar.{Grammar}
-use Rattle.lfg_model.specs.declared.status.GrammarFault.{GrammarFault}
-use Rattle.lfg_model.specs.declared.status.GrammarFault.TheVariants as grammar
+use Rattle.lfg_model.specs.declared.fault.GrammarFault.{GrammarFault}
+use Rattle.lfg_model.specs.declared.fault.GrammarFault.TheVariants as grammar
 use Rattle.lfg_model.specs.DraftForms.{PlainForm}
 use Rattle.lfg_model.specs.Loads.{Loads, LoadFault, IsPlainDraft, FirstBadPath, IsBadPath, draft_paths}
 use Rattle.lfg_model.specs.Settings.{IsDepth}

@@ -3,8 +3,8 @@ use Rattle.std.specs.Prelude.{◌≡◌, ◌⊎◌, ℕ, List}
 use Rattle.lfg_terms.specs.declared.draft.Plain.{Plain}
 use Rattle.lfg_terms.specs.declared.grammar.Grammar.{Grammar}
 use Rattle.lfg_terms.specs.declared.grammar.Rule.{Rule}
-use Rattle.lfg_model.specs.declared.status.GrammarFault.{GrammarFault}
-use Rattle.lfg_model.specs.declared.status.GrammarFault.TheVariants as fault
+use Rattle.lfg_model.specs.declared.fault.GrammarFault.{GrammarFault}
+use Rattle.lfg_model.specs.declared.fault.GrammarFault.TheVariants as fault
 use Rattle.lfg_model.specs.DraftForms.{plain_form}
 use Rattle.lfg_model.specs.Loads.{FirstRule, IsAssembled, IsPlainDraft}
 use Rattle.lfg_model.specs.Terms.{Name}

@@ -3,8 +3,8 @@ use Rattle.std.specs.Prelude.{◌≡◌, ℕ, Result, Ok, Err, List, Vec, map}
 use Rattle.std.specs.Global.{Global}
 use Rattle.std.specs.List.{flat_map}
 use Rattle.lfg_terms.specs.declared.grammar.Graph.{Graph}
-use Rattle.lfg_model.specs.declared.status.GrammarFault.{GrammarFault}
-use Rattle.lfg_model.specs.declared.status.GrammarFault.TheVariants as grammar
+use Rattle.lfg_model.specs.declared.fault.GrammarFault.{GrammarFault}
+use Rattle.lfg_model.specs.declared.fault.GrammarFault.TheVariants as grammar
 use Rattle.lfg_model.specs.DraftForms.{RuleForm}
 use Rattle.lfg_model.specs.Firsts.{First}
 use Rattle.lfg_model.specs.Loads.{LoadsItem, item_paths, items_of, rule_paths, IsBadSide}

@@ -6,7 +6,7 @@ use Rattle.lfg_terms.specs.declared.grammar.Schema as declared
 use Rattle.lfg_terms.specs.declared.grammar.Schema.TheVariants as schema
 use Rattle.lfg_terms.specs.declared.grammar.Val.TheVariants as val
 use Rattle.lfg_model.specs.Terms.{Name, Paths, same_name}
-use Rattle.lfg_model.specs.Thin.{empty_item}
+use Rattle.lfg_model.specs.Spelling.{empty_item}
 
 -- `^=!`
 abbrev pub bare_link : declared.Schema Paths

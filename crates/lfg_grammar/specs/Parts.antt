@@ -3,8 +3,8 @@ use Rattle.std.specs.Prelude.{◌≡◌, ℕ, Result, Ok, Err, List, map}
 use Rattle.lfg_terms.specs.declared.draft.DraftRule.{DraftRule}
 use Rattle.lfg_terms.specs.declared.draft.LexEntry.{LexEntry}
 use Rattle.lfg_terms.specs.declared.draft.Plain.{Plain}
-use Rattle.lfg_model.specs.declared.status.GrammarFault.{GrammarFault}
-use Rattle.lfg_model.specs.declared.status.GrammarFault.TheVariants as fault
+use Rattle.lfg_model.specs.declared.fault.GrammarFault.{GrammarFault}
+use Rattle.lfg_model.specs.declared.fault.GrammarFault.TheVariants as fault
 use Rattle.lfg_model.specs.DraftForms.{PlainForm}
 use Rattle.lfg_model.specs.Lists.{In}
 use Rattle.lfg_model.specs.Loads.{LoadsWord, PathAt, HasTooMany, HasNone, IsBadPath, draft_paths, path_entry, items_of}

@@ -1,7 +1,7 @@
 -- Why a grammar file is not loaded, as the parts of the program tell it.
 use Rattle.std.specs.Prelude.{◌≡◌, ◌⊎◌, ℕ, List, Option, Some, None, map}
-use Rattle.lfg_model.specs.declared.status.GrammarFault.{GrammarFault}
-use Rattle.lfg_model.specs.declared.status.GrammarFault.TheVariants as fault
+use Rattle.lfg_model.specs.declared.fault.GrammarFault.{GrammarFault}
+use Rattle.lfg_model.specs.declared.fault.GrammarFault.TheVariants as fault
 use Rattle.lfg_model.specs.Loads.{LoadFault}
 use Rattle.lfg_notation.specs.declared.fault.DraftFault.{DraftFault}
 use Rattle.lfg_notation.specs.declared.fault.DraftFault.TheVariants as draft

@@ -4,7 +4,7 @@ ghost use Rattle.lfg_model.specs.Loads.{HasWords, IsAssembled, IsUnaryCycle, IsU
 ghost use Rattle.lfg_model.specs.TemplateRules.{NoneHas};
 ghost use Rattle.lfg_grammar.specs.Checks.{IsCheckFault, IsUnchecked};
 ghost use Rattle.lfg_grammar.specs.Refusals.{IsRefusal};
-ghost use Rattle.lfg_model.specs.declared.status.GrammarFault.TheVariants.{Both, UnaryCycle, Unlinked};
+ghost use Rattle.lfg_model.specs.declared.fault.GrammarFault.TheVariants.{Both, UnaryCycle, Unlinked};
 
 use crate::both::first_both;
 use crate::cycles::first_unary_cycle;

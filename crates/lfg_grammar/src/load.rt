@@ -6,7 +6,7 @@ ghost use Rattle.lfg_model.specs.Settings.{AreSettings, HasBadSetting};
 ghost use Rattle.lfg_grammar.specs.Checks.{IsPlain};
 ghost use Rattle.lfg_grammar.specs.Refusals.{IsRefusal};
 ghost use Rattle.lfg_terms.specs.declared.grammar.Grammar.{Grammar};
-ghost use Rattle.lfg_model.specs.declared.status.GrammarFault.{GrammarFault};
+ghost use Rattle.lfg_model.specs.declared.fault.GrammarFault.{GrammarFault};
 
 use crate::checks::checked;
 use crate::faults::{draft_fault, template_fault};

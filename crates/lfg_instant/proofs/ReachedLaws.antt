@@ -31,7 +31,7 @@ use Rattle.lfg_model.proofs.ListLaws.{In-nil, In-one, In-cons_cases, In_from_map
 use Rattle.lfg_model.proofs.ReachedLaws.{picked_is_reached}
 use Rattle.lfg_model.proofs.SomePick.{some_is_picked}
 use Rattle.lfg_model.proofs.Standing.{kept_is_standing}
-use Rattle.lfg_model.proofs.ThinTreeLaws.{from_map}
+use Rattle.lfg_model.proofs.Lookups.{from_map}
 use Rattle.lfg_packed.specs.Assignments.{alternative_at}
 use Rattle.lfg_packed.specs.ChoicePoints.{NextAt, EntryAt}
 use Rattle.lfg_packed.specs.Choices.{PlacedChoice, AreChoices}

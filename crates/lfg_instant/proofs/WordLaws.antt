@@ -16,7 +16,7 @@ use Rattle.lfg_model.specs.Lists.{In, here, later, Lists}
 use Rattle.lfg_model.specs.Terms.{Name, same_name}
 use Rattle.lfg_model.specs.Kept.{IsEntry}
 use Rattle.lfg_model.proofs.ListLaws.{In-nil, In-cons_cases, In-push, In-push_cases, In-append_left, In-map, In_from_map}
-use Rattle.lfg_model.proofs.ThinTreeLaws.{same_itself, same_from_test}
+use Rattle.lfg_model.proofs.Lookups.{same_itself, same_from_test}
 use Rattle.lfg_model.proofs.OneTree.{same_some}
 use Rattle.lfg_instant.specs.declared.words.EntryKey.{EntryKey}
 use Rattle.lfg_packed.specs.Words.{form_place, word_place, entry_cmp}

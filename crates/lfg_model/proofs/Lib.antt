@@ -25,7 +25,6 @@ pub mod NestLaws
 pub mod NestTurns
 pub mod Numbered
 pub mod OneTree
-pub mod OutputLaws
 pub mod PathCases
 pub mod PathNotationLaws
 pub mod PathViews
@@ -41,14 +40,8 @@ pub mod Settling
 pub mod SolutionLaws
 pub mod SomeReading
 pub mod SymbolRule
-pub mod ThinCuts
-pub mod ThinDraftLaws
-pub mod ThinSides
-pub mod ThinTokens
-pub mod ThinTreeLaws
 pub mod TreeOrder
 pub mod Within
-pub mod ThinLaws
 pub mod FirstLaws
 pub mod ExpansionLaws
 pub mod SettingLaws
@@ -80,8 +73,4 @@ pub mod PartPlaces
 pub mod SoundRows
 pub mod SoundWalks
 pub mod SoundLaws
-pub mod ThinExpansion
-pub mod ThinGraphs
-pub mod ThinSizes
-pub mod ThinAssembly
-pub mod ThinLoadLaws
+pub mod Lookups

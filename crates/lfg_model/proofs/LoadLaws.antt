@@ -3,8 +3,8 @@ use Rattle.std.proofs.Common.{◌≡◌, ℕ, suc, ◌<◌, ◌≤◌, Bool, tru
 use Rattle.std.proofs.lemmas.List.Sums.{sum_by-cons}
 use Rattle.std.proofs.lemmas.Bool.{ltb-true, ltb-false}
 use Rattle.lfg_terms.specs.declared.grammar.Grammar.{Grammar}
-use Rattle.lfg_model.specs.declared.status.GrammarFault.{GrammarFault}
-use Rattle.lfg_model.specs.declared.status.GrammarFault.TheVariants as fault
+use Rattle.lfg_model.specs.declared.fault.GrammarFault.{GrammarFault}
+use Rattle.lfg_model.specs.declared.fault.GrammarFault.TheVariants as fault
 use Rattle.lfg_model.specs.DraftForms.{RuleForm, DraftForm, PlainForm}
 use Rattle.lfg_model.specs.Drafts.{Drafts, FileFault, HasFault, not_utf8, no_token, no_lexemes, bad_section, bad_entry}
 use Rattle.lfg_model.specs.Firsts.{First}

@@ -13,7 +13,7 @@ use Rattle.lfg_model.specs.RightSides.{DraftSchema, DraftAnnotation, DraftBranch
 use Rattle.lfg_model.specs.Templates.{Each, end, and}
 use Rattle.lfg_model.specs.TemplateRules.{schema_size, annotation_size, branches_size, option_size, side_size, sides_size, Weight, rule_weight, reading_weight, weights, whole_size}
 use Rattle.lfg_model.specs.Terms.{Name, same_name, Paths, Schema, Annotation, Branches, annotation_of}
-use Rattle.lfg_model.specs.Thin.{empty_item}
+use Rattle.lfg_model.specs.Spelling.{empty_item}
 
 -- ---- annotations
 

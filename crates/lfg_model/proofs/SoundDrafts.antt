@@ -21,7 +21,7 @@ use Rattle.lfg_model.specs.Loaded.{IsFree, AreFree, IsSoundForm}
 use Rattle.lfg_model.specs.NotationCases.{IsRepetition, once, any_times, once_or_more, IsPart, part_name, part_branches, part_row, IsPath, last_part, more_parts, IsPathBranches, last_path, more_paths, IsLong, long, IsDes, bare_arrow, with_path, IsValue, value_name, value_plus, value_minus, IsValues, no_value, more_values, IsTest, test_des, test_value, IsFunctions, no_function, more_functions, IsForm, bare_form, form_with, IsSchema, defines, defines_form, constrains, differs, leads, leads_nowhere, belongs, marks, alternatives, optional_schemata, calls, calls_with, IsAnnotation, last_schema, more_schemata, IsAlternatives, last_annotation, more_annotations, IsEnd, semicolon, no_semicolon, IsTerm, category, annotated_ended, annotated_last, optional_terms, term_branches, term_row, IsTerms, last_term, more_terms, IsTermBranches, last_terms, more_branches}
 use Rattle.lfg_model.proofs.ListLaws.{In-nil, In-cons_cases}
 use Rattle.lfg_model.proofs.SoundForms.{IsFreePath, AreFreePaths, IsFreeDes, IsFreeVal, IsFreeTest, IsFreeSchema, IsFreeAnnotation, AreFreeBranches, HasDraftBranch, AreFreeSchemata, IsFreeSide, AreFreeSides, HasSide}
-use Rattle.lfg_model.proofs.ThinTreeLaws.{same_itself}
+use Rattle.lfg_model.proofs.Lookups.{same_itself}
 
 -- ---- lexemes
 

@@ -17,7 +17,7 @@ use Rattle.lfg_model.specs.Sequences as sequence
 use Rattle.lfg_model.specs.Sequences.{Joins, Repeats}
 use Rattle.lfg_model.specs.Settings.{words_set, words_or_none, IsNumberOr, IsSetTo}
 use Rattle.lfg_model.specs.Terms.{Name, same_name, Path, Paths, Schema, Annotation, Branches, annotation_of}
-use Rattle.lfg_model.specs.Thin.{empty_item}
+use Rattle.lfg_model.specs.Spelling.{empty_item}
 use Rattle.lfg_model.proofs.AssemblyLaws.{each_back}
 use Rattle.lfg_model.proofs.ListLaws.{In-nil, In-append_cases, In-one}
 use Rattle.lfg_model.proofs.OneTree.{same_some}

@@ -8,11 +8,11 @@ use Rattle.lfg_model.specs.RightSides.{RightSide, item, row, one_of, optional, s
 use Rattle.lfg_model.specs.Sequences.{Joins, Repeats, no_more, once_more}
 use Rattle.lfg_model.specs.Spelling.{AllowsEmpty, HasEmptyStar, SomeHasEmptyStar, SpellsBehind, SpellsBranch, SpellsRow, Spells, categories, categories_of, category_at}
 use Rattle.lfg_model.specs.Terms.{Name, same_name}
-use Rattle.lfg_model.specs.Thin.{empty_item}
+use Rattle.lfg_model.specs.Spelling.{empty_item}
 use Rattle.lfg_model.proofs.ListLaws.{In-append_left, In-append_right, In-append_cases, In-nil, In-one, In-cons_cases}
 use Rattle.lfg_model.proofs.OneTree.{same_some}
 use Rattle.lfg_model.proofs.PartPlaces.{Placed, front_placed, back_placed, whole_placed, item_placed}
-use Rattle.lfg_model.proofs.ThinTreeLaws.{same_from_test}
+use Rattle.lfg_model.proofs.Lookups.{same_from_test}
 
 -- ---- rows without a category
 

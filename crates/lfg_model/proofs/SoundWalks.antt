@@ -17,13 +17,13 @@ use Rattle.lfg_model.specs.Sequences.{no_more, once_more}
 use Rattle.lfg_model.specs.Spelling.{SpellsBehind, SpellsBranch, SpellsRow, categories, categories_of, category_at}
 use Rattle.lfg_model.specs.Templates.{Each, end, and}
 use Rattle.lfg_model.specs.Terms.{Name, same_name}
-use Rattle.lfg_model.specs.Thin.{empty_item}
+use Rattle.lfg_model.specs.Spelling.{empty_item}
 use Rattle.lfg_model.proofs.ListLaws.{In-append_left, In-append_right, In-cons_cases, split_at}
 use Rattle.lfg_model.proofs.OneTree.{same_some}
 use Rattle.lfg_model.proofs.SoundCounts.{each_length}
 use Rattle.lfg_model.proofs.SoundForms.{IsFreeSide, AreFreeSides, HasSide}
 use Rattle.lfg_model.proofs.SoundRows.{full, full-append, full_behind, full_of_empty, slack, row_bound}
-use Rattle.lfg_model.proofs.ThinTreeLaws.{same_from_test}
+use Rattle.lfg_model.proofs.Lookups.{same_from_test}
 
 -- ---- each item stands in a row that is spelled
 

@@ -12,7 +12,6 @@ pub mod Literals
 pub mod ManWalks
 pub mod Nests
 pub mod NotationCases
-pub mod Output
 pub mod PairTexts
 pub mod PathExpressions
 pub mod PathNotation
@@ -27,10 +26,6 @@ pub mod Sequences
 pub mod Solve
 pub mod Spelling
 pub mod Terms
-pub mod Thin
-pub mod ThinDrafts
-pub mod ThinText
-pub mod ThinTrees
 pub mod Pieces
 pub mod Tokens
 pub mod Trees
@@ -50,4 +45,3 @@ pub mod Fillable
 pub mod ChartRows
 pub mod Charts
 pub mod Picked
-pub mod ThinLoads

@@ -12,8 +12,8 @@ use Rattle.lfg_terms.specs.declared.grammar.Graph.{Graph}
 use Rattle.lfg_terms.specs.declared.grammar.Rule.{Rule}
 use Rattle.lfg_terms.specs.declared.grammar.Lex.{Lex}
 use Rattle.lfg_terms.specs.declared.grammar.Grammar.{Grammar}
-use Rattle.lfg_model.specs.declared.status.GrammarFault.{GrammarFault}
-use Rattle.lfg_model.specs.declared.status.GrammarFault.TheVariants as fault
+use Rattle.lfg_model.specs.declared.fault.GrammarFault.{GrammarFault}
+use Rattle.lfg_model.specs.declared.fault.GrammarFault.TheVariants as fault
 use Rattle.lfg_model.specs.Derive.{Walks}
 use Rattle.lfg_model.specs.DraftForms.{RuleForm, WordForm, DraftForm, PlainForm}
 use Rattle.lfg_model.specs.Drafts.{Drafts, HasFault, not_utf8, no_token, no_lexemes, bad_section, bad_entry}
@@ -31,7 +31,7 @@ use Rattle.lfg_model.specs.Templates.{Each}
 use Rattle.lfg_model.specs.TemplateRules.{FirstWritten, NoneHas, IsExpanded, FirstRepeated, FirstUndefined, FirstOtherArity, FirstCyclic, FirstTooMuch}
 use Rattle.lfg_model.specs.Terms.{Name, same_name, Path, Paths, Schema, Annotation, Branches, annotation_of}
 use Rattle.lfg_model.specs.Terms as loaded
-use Rattle.lfg_model.specs.Thin.{empty_item}
+use Rattle.lfg_model.specs.Spelling.{empty_item}
 
 -- ---- annotations
 

@@ -1,13 +1,16 @@
 -- The rows of items that the right side of a rule spells. The items are numbered from 1 in written
 -- order, with the empty items among them.
-use Rattle.std.specs.Prelude.{◌≡◌, ℕ, zero, suc, ◌+◌, ◌⊎◌, Option, Some, None, List, [], ◌∷◌, ◌++◌, length, slice_get}
+use Rattle.std.specs.Prelude.{◌≡◌, ℕ, zero, suc, ◌+◌, ◌⊎◌, Option, Some, None, List, [], ◌∷◌, ◌++◌, length, slice_get, codes}
 use Rattle.lfg_model.specs.Lists.{In}
 use Rattle.lfg_model.specs.Sequences.{Joins, Repeats}
 use Rattle.lfg_model.specs.Terms.{Name}
-use Rattle.lfg_model.specs.Thin.{empty_item}
 use Rattle.lfg_model.specs.RightSides.{RightSide, item, row, one_of, optional, star, plus, RightSides, no_side, and_side}
 
 -- ---- the items
+
+-- the name of the empty item, which is no category
+abbrev pub empty_item : Name
+empty_item = codes "e"
 
 -- the categories of the items in written order; that of an empty item is `e`
 abbrev mutual

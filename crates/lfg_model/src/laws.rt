@@ -7,15 +7,10 @@ ghost use Rattle.lfg_model.specs.Lists.{SetsOfFactsAreOne};
 ghost use Rattle.lfg_model.specs.Loaded.{LoadedHasNoEdgeTwice, LoadsGivesLoaded};
 ghost use Rattle.lfg_model.specs.Loads.{LoadedHasNoFault, OneLoadFault, OneLoadedGrammar};
 ghost use Rattle.lfg_model.specs.ManWalks.{TheManWalks};
-ghost use Rattle.lfg_model.specs.Output.{OneOutput};
 ghost use Rattle.lfg_model.specs.Readings.{ClassesHaveOneName, ReadingsAreOne};
 ghost use Rattle.lfg_model.specs.Rounds.{GrowingRoundsSettle, RoundsGiveEqual};
 ghost use Rattle.lfg_model.specs.Solve.{RoundsGiveSolution};
-ghost use Rattle.lfg_model.specs.ThinDrafts.{ThinFilesAreDrafted};
-ghost use Rattle.lfg_model.specs.ThinLoads.{ThinFilesAreLoaded};
-ghost use Rattle.lfg_model.specs.ThinTrees.{OneThinDerivation, ThinLeavesNoChoice};
 ghost use Rattle.lfg_model.specs.Unambiguous.{OneDerivation};
-ghost use Rattle.lfg_model.specs.ThinText.{OneThinGrammar, ThinFilesAreThin};
 
 /// Two lists of facts in ascending order that have the same facts are equal.
 pub fn sets_of_facts_are_one()
@@ -71,16 +66,6 @@ pub fn one_derivation()
     ensures { OneDerivation }
 {}
 
-/// A thin grammar leaves no choice for a sentence whose tokens have their own text alone as forms.
-pub fn thin_grammars_leave_no_choice()
-    ensures { ThinLeavesNoChoice }
-{}
-
-/// Such a sentence has one derivation at most by a thin grammar.
-pub fn one_thin_derivation()
-    ensures { OneThinDerivation }
-{}
-
 /// The text of the facts of a derivation's tree is that of the tree, where no edge stands twice and
 /// each begins before its end.
 pub fn tree_text_is_bracketed()
@@ -91,23 +76,6 @@ pub fn tree_text_is_bracketed()
 /// a plural subject.
 pub fn the_man_walks()
     ensures { TheManWalks }
-{}
-
-/// A text is a thin grammar file of one grammar at most, and that grammar is thin.
-pub fn thin_files_have_one_grammar()
-    ensures one { OneThinGrammar }
-    ensures thin { ThinFilesAreThin }
-{}
-
-/// A thin grammar file is a grammar file of the whole notation, and its draft there is the one that
-/// the thin file gives its grammar from.
-pub fn thin_files_are_drafted()
-    ensures { ThinFilesAreDrafted }
-{}
-
-/// The grammar that a thin file gives is loaded from it.
-pub fn thin_files_are_loaded()
-    ensures { ThinFilesAreLoaded }
 {}
 
 /// A grammar file is not loaded for one reason at most, and for none where a grammar is loaded from it.
@@ -127,9 +95,4 @@ pub fn a_file_has_one_loaded_grammar()
 pub fn loaded_grammars_keep_the_conditions()
     ensures loaded { LoadsGivesLoaded }
     ensures once { LoadedHasNoEdgeTwice }
-{}
-
-/// A command over files has one output: one list of sections and one status.
-pub fn a_command_has_one_output()
-    ensures { OneOutput }
 {}

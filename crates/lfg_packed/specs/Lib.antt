@@ -8,3 +8,4 @@ pub mod Picks
 pub mod Sizes
 pub mod SpotFacts
 pub mod Words
+pub mod ParseCounts

@@ -8,10 +8,10 @@ use Rattle.lfg_model.specs.RightSides.{RightSide, item, row, one_of, optional, s
 use Rattle.lfg_model.specs.Sequences.{no_more}
 use Rattle.lfg_model.specs.Spelling.{AllowsEmpty, HasEmptyStar, SomeHasEmptyStar, SpellsBehind, SpellsBranch, SpellsRow, categories, categories_of, category_at}
 use Rattle.lfg_model.specs.Terms.{Name, same_name}
-use Rattle.lfg_model.specs.Thin.{empty_item}
+use Rattle.lfg_model.specs.Spelling.{empty_item}
 use Rattle.lfg_model.proofs.ListLaws.{In-append_left, In-append_right, In-append_cases, In-nil, In-one}
 use Rattle.lfg_model.proofs.OneTree.{same_some}
-use Rattle.lfg_model.proofs.ThinTreeLaws.{same_itself, same_from_test}
+use Rattle.lfg_model.proofs.Lookups.{same_itself, same_from_test}
 use Rattle.lfg_rulegraph.specs.Empty.{allows_empty, all_allow_empty, some_allows_empty, has_empty_star, some_has_empty_star}
 use Rattle.lfg_rulegraph.proofs.TableForms.{both_true, one_true}
 

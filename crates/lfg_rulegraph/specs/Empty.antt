@@ -1,7 +1,7 @@
 -- Tests for right sides without a category.
 use Rattle.std.specs.Prelude.{◌≡◌, Bool, true, false, ◌&&◌, ◌||◌}
 use Rattle.lfg_model.specs.Terms.{same_name}
-use Rattle.lfg_model.specs.Thin.{empty_item}
+use Rattle.lfg_model.specs.Spelling.{empty_item}
 use Rattle.lfg_model.specs.RightSides.{RightSide, item, row, one_of, optional, star, plus, RightSides, no_side, and_side}
 use Rattle.lfg_rulegraph.specs.declared.fault.GraphFault.{GraphFault}
 use Rattle.lfg_rulegraph.specs.declared.fault.GraphFault.TheVariants.{EmptyStar}

@@ -1,7 +1,7 @@
 ghost use Rattle.std.specs.Prelude.{◌≡◌, MatchResult};
 ghost use Rattle.lfg_model.specs.RightSides.{right_side_of, right_sides_of};
 ghost use Rattle.lfg_model.specs.Terms.{same_name};
-ghost use Rattle.lfg_model.specs.Thin.{empty_item};
+ghost use Rattle.lfg_model.specs.Spelling.{empty_item};
 ghost use Rattle.lfg_rulegraph.specs.Empty.{IsAllowed, IsStarFault, all_allow_empty, allows_empty, has_empty_star, some_allows_empty, some_has_empty_star};
 
 use crate::fault::GraphFault;

@@ -4,7 +4,7 @@ use Rattle.std.specs.Prelude.{Some}
 use Rattle.lfg_model.specs.Lists.{In}
 use Rattle.lfg_model.specs.Output.{Command, command_of, files_of, IfReadFault, IfTooLong, IfBadGrammar}
 use Rattle.lfg_io.specs.Counts.{Rose}
-use Rattle.lfg_model.specs.declared.status.GrammarFault.{GrammarFault}
+use Rattle.lfg_model.specs.declared.fault.GrammarFault.{GrammarFault}
 use Rattle.lfg_model.specs.declared.status.Status.{Status}
 use Rattle.lfg_model.specs.declared.status.Status.TheVariants.{Done, Usage, ReadFault, FileTooLong, BadGrammar, WriteFault, Memory}
 use Rattle.xle_run.specs.Causes.{IsRefused, IsUnwritten, IsFailure, IsRunFailure}

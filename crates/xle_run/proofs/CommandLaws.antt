@@ -3,8 +3,8 @@ use Rattle.std.proofs.Common.{◌≡◌, ℕ, List, [], ◌∷◌, Some, sym, su
 use Rattle.std.specs.Prelude.{Result, Ok, Err, IfErr, OnOk, OnErr, ◌⊎◌}
 use Rattle.lfg_io.specs.Shelf.{Files, file_in}
 use Rattle.lfg_terms.specs.declared.grammar.Grammar.{Grammar}
-use Rattle.lfg_model.specs.declared.status.GrammarFault.{GrammarFault}
-use Rattle.lfg_model.specs.declared.status.GrammarFault.TheVariants.{Entry}
+use Rattle.lfg_model.specs.declared.fault.GrammarFault.{GrammarFault}
+use Rattle.lfg_model.specs.declared.fault.GrammarFault.TheVariants.{Entry}
 use Rattle.lfg_model.specs.declared.status.Status.{Status}
 use Rattle.lfg_model.specs.declared.status.Status.TheVariants.{Done, Usage, ReadFault, FileTooLong, BadGrammar, WriteFault, Memory}
 use Rattle.lfg_model.specs.Lists.{In, later}

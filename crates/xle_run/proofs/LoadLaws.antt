@@ -4,10 +4,10 @@ use Rattle.std.proofs.lemmas.List.{length-take}
 use Rattle.std.specs.Prelude.{Option, Result, Ok, Err, IfOk, IfErr, OnOk, Vec}
 use Rattle.std.specs.Global.{Global}
 use Rattle.lfg_io.specs.Shelf.{Files, file_in, IsLoaded}
-use Rattle.lfg_model.specs.declared.status.GrammarFault.TheVariants.{Entry}
+use Rattle.lfg_model.specs.declared.fault.GrammarFault.TheVariants.{Entry}
 use Rattle.lfg_model.specs.declared.status.Status.{Status}
 use Rattle.lfg_model.specs.declared.status.Status.TheVariants.{Done, Usage, ReadFault, FileTooLong, BadGrammar, WriteFault, Memory}
-use Rattle.lfg_model.specs.declared.status.GrammarFault.{GrammarFault}
+use Rattle.lfg_model.specs.declared.fault.GrammarFault.{GrammarFault}
 use Rattle.lfg_model.specs.Output.{file_limit, IfBadGrammar, IfTooLong, IsFaultOf}
 use Rattle.lfg_model.specs.ThinText.{ThinFile, ThinSentences}
 use Rattle.lfg_terms.specs.declared.grammar.Grammar.{Grammar}

@@ -1,7 +1,7 @@
 use Rattle.std.proofs.Common.{ℕ, Option, subst}
 use Rattle.lfg_grammar.specs.Cycles.{FirstPlace}
 use Rattle.lfg_model.specs.Loads.{IsUnaryCycle}
-use Rattle.lfg_model.specs.declared.status.GrammarFault.TheVariants.{UnaryCycle}
+use Rattle.lfg_model.specs.declared.fault.GrammarFault.TheVariants.{UnaryCycle}
 use Rattle.lfg_grammar.proofs.CheckLaws.{graphs_of, rules_once, place_fault}
 use Rattle.lfg_grammar.proofs.checks.check_cycles.Goals as goal
 

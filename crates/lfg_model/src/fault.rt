@@ -2,7 +2,7 @@ use lfg_terms::Name;
 use std::alloc::{AllocError, AllocFailed};
 use thiserror::Error;
 
-/// Why a grammar file or a sentence file is refused.
+/// Why a grammar file is refused.
 #[derive(Debug, Drop, PartialEq, Eq, Error)]
 pub enum GrammarFault {
     /// The bytes are UTF-8 up to byte `at`, counted from 0, and not from there on.
@@ -16,7 +16,6 @@ pub enum GrammarFault {
     #[error("Section {number}")]
     Section { number: u32 },
     /// The entry with this number, counted from 1 over the whole file, is none of the notation.
-    /// The number 0 stands for a file that is loaded and not read yet.
     #[error("Entry {number}")]
     Entry { number: u32 },
     /// The key of this CONFIG entry came before, or its number is out of range; with the number 0,
@@ -67,7 +66,7 @@ pub enum GrammarFault {
 
 impl From<AllocError> for GrammarFault {
     ghost use Rattle.std.specs.Prelude.{◌≡◌};
-    ghost use Rattle.lfg_model.specs.declared.status.GrammarFault.TheVariants.{Memory};
+    ghost use Rattle.lfg_model.specs.declared.fault.GrammarFault.TheVariants.{Memory};
 
     ghost from_gives = { λ _ fault. fault ≡ Memory };
 
@@ -78,30 +77,11 @@ impl From<AllocError> for GrammarFault {
 
 impl<T: Drop> From<AllocFailed<T>> for GrammarFault {
     ghost use Rattle.std.specs.Prelude.{◌≡◌};
-    ghost use Rattle.lfg_model.specs.declared.status.GrammarFault.TheVariants.{Memory};
+    ghost use Rattle.lfg_model.specs.declared.fault.GrammarFault.TheVariants.{Memory};
 
     ghost from_gives = { λ _ fault. fault ≡ Memory };
 
     fn from(_: AllocFailed<T>) -> GrammarFault {
         GrammarFault::Memory
     }
-}
-
-/// How a run of the program ended.
-#[derive(Debug, Drop, PartialEq, Eq)]
-pub enum Status {
-    /// Everything was written.
-    Done,
-    /// The words of the command line are no command.
-    Usage,
-    /// The file of this name could not be read.
-    ReadFault { name: Name },
-    /// The file of this name has more than 4,194,304 bytes.
-    FileTooLong { name: Name },
-    /// The file of this name is not accepted.
-    BadGrammar { name: Name, fault: GrammarFault },
-    /// The output took no more.
-    WriteFault,
-    /// There was not enough memory.
-    Memory,
 }

@@ -1,6 +1,0 @@
-use Rattle.std.proofs.Common.{take}
-use Rattle.lfg_solve.specs.Found.{EachOf, LeadsBy, SomeOf}
-use Rattle.lfg_solve.proofs.conditions.has_each.Given as goal
-
-abbrev pub invariant-loop-function : goal.invariant-loop-function
-invariant-loop-function l = EachOf (λ g. SomeOf (LeadsBy l.class g) l.arcs) (take l.function-index l.functions)
