@@ -1,2 +1,6 @@
-//! What the program writes: its statuses, and the definitions of the output of its commands.
+//! What the program writes: how a run ends, and the definition of the output of its commands.
 #![tactic(auto)]
+
+mod status;
+
+pub use status::{StageName, Status};

@@ -1,4 +1,9 @@
-//! The packed parse of a sentence; so far the laws that it stands on.
+//! The packed parse of a sentence.
 #![tactic(auto)]
 
+mod fault;
 pub mod laws;
+mod parse;
+
+pub use fault::ParseFault;
+pub use parse::parse;

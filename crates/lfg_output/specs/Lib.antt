@@ -1,0 +1,5 @@
+pub mod Commands
+pub mod Output
+pub mod Sections
+pub mod Sentences
+pub mod Statuses
