@@ -1,5 +1,5 @@
 -- How large the packed parse of a sentence is, as the limit on facts is tested against it.
-use Rattle.std.specs.Prelude.{◌≡◌, ℕ, max, List, length}
+use Rattle.std.specs.Prelude.{◌≡◌, ℕ, ◌<◌, max, List, length}
 use Rattle.lfg_terms.specs.Order.{fact_cmp}
 use Rattle.lfg_terms.specs.declared.node.Fact.{Fact}
 use Rattle.lfg_terms.specs.declared.grammar.Grammar.{Grammar}
@@ -23,3 +23,8 @@ pub record IsParseCount (g : Grammar) (s : List TokenForms) (n : ℕ) : Type 0 w
   pub facts : List Fact
   pub are_facts : Lists fact_cmp (IsReadingFact g s) facts
   pub is : n ≡ max instances (length facts)
+
+-- The parse count is above this number: the instance count is, or the number of the different facts.
+pub data IsParseAbove (g : Grammar) (s : List TokenForms) (most : ℕ) : Type 0 where
+  by_instances : {n : ℕ} → IsInstanceCount g s n → most < n → IsParseAbove g s most
+  by_facts : {facts : List Fact} → Lists fact_cmp (IsReadingFact g s) facts → most < length facts → IsParseAbove g s most

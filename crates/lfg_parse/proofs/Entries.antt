@@ -196,13 +196,13 @@ module _ (g : Grammar) (s : List TokenForms) (e : Edge) where
       (r.0, Lists-same (λ k. ((λ h. h.1), (λ w. (get_less g.lexicon k w.lex w.listed, w)))) r.1)
 
 module _ (g : Grammar) (s : List TokenForms) (loaded : Loaded g) where
-  abbrev WordFits : Spot → Type 0
+  abbrev pub WordFits : Spot → Type 0
   WordFits (AnEdge e) = Unit {0}
   WordFits (AStep p n) = Unit {0}
   WordFits (AWord e k) = IsEntry g s e k
   WordFits (APick at picks) = Unit {0}
 
-  kept_word : (x : Spot) → KeptSpot g s x → WordFits x
+  pub kept_word : (x : Spot) → KeptSpot g s x → WordFits x
   kept_word x (an_edge k) = tt
   kept_word x (a_word k w) = w
   kept_word x (a_step rule p k is reach follow crosses ends) = tt

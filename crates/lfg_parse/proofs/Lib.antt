@@ -3,3 +3,7 @@ pub mod Finding
 pub mod OneThing
 pub mod Picking
 pub mod Taking
+pub mod Closures
+pub mod Solutions
+pub mod EdgeNodes
+pub mod Parses

@@ -1,2 +1,4 @@
 pub mod Picking
 pub mod Packs
+pub mod Judging
+pub mod Faults

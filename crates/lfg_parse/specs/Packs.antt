@@ -1,6 +1,6 @@
 -- The packed parse of a sentence: what a packed value says of the derivations that assignments of its
 -- choices pick, and when there is none for its size.
-use Rattle.std.specs.Prelude.{◌≡◌, ℕ, ◌+◌, ◌<◌, ◌≤◌, true, List, [], map}
+use Rattle.std.specs.Prelude.{◌≡◌, ℕ, ◌+◌, ◌≤◌, true, List, [], map}
 use Rattle.lfg_terms.specs.FactTexts.{IsListedFact}
 use Rattle.lfg_terms.specs.declared.node.Fact.{Fact}
 use Rattle.lfg_terms.specs.declared.grammar.Grammar.{Grammar}
@@ -13,7 +13,7 @@ use Rattle.lfg_model.specs.Terms.{Tree}
 use Rattle.lfg_model.specs.Readings.{Assigned, IsPairOf, IsReadings}
 use Rattle.lfg_packed.specs.Assignments.{IsPickedBy}
 use Rattle.lfg_packed.specs.Choices.{PlacedChoice, AreChoices, choice_of}
-use Rattle.lfg_packed.specs.ParseCounts.{IsParseCount}
+use Rattle.lfg_packed.specs.ParseCounts.{IsParseCount, IsParseAbove}
 use Rattle.lfg_store.specs.Facts.{Entries, facts_of}
 use Rattle.lfg_store.specs.Unpacking.{pair_at, AreUnpacked}
 use Rattle.lfg_store.specs.declared.packed.Packed.{Packed}
@@ -49,12 +49,6 @@ pub record IsParseWithin (g : Grammar) (s : List TokenForms) (most : ℕ) : Type
   pub count : ℕ
   pub counted : IsParseCount g s count
   pub not_above : count ≤ most
-
--- it is more
-pub record IsParseAbove (g : Grammar) (s : List TokenForms) (most : ℕ) : Type 0 where
-  pub count : ℕ
-  pub counted : IsParseCount g s count
-  pub above : most < count
 
 -- The sentence is refused as too large only where its parse count is above the grammar's limit on
 -- facts, with one more than the limit; want of memory may come at any sentence.

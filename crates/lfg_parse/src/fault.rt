@@ -1,3 +1,4 @@
+use lfg_instant::InstantFault;
 use std::alloc::AllocError;
 use thiserror::Error;
 
@@ -21,5 +22,19 @@ impl From<AllocError> for ParseFault {
 
     fn from(_: AllocError) -> ParseFault {
         ParseFault::Memory
+    }
+}
+
+impl From<InstantFault> for ParseFault {
+    ghost use Rattle.std.specs.Prelude.{◌≡◌};
+    ghost use Rattle.lfg_parse.specs.Faults.{as_parse_fault};
+
+    ghost from_gives = { λ fault it. it ≡ as_parse_fault fault };
+
+    fn from(fault: InstantFault) -> ParseFault {
+        match fault {
+            InstantFault::TooLarge { count } => ParseFault::TooLarge { count },
+            InstantFault::Memory => ParseFault::Memory,
+        }
     }
 }

@@ -1,9 +1,13 @@
 //! The packed parse of a sentence.
 #![tactic(auto)]
 
+mod charted;
 mod fault;
+mod good;
+mod judging;
 pub mod laws;
-mod parse;
+mod parsing;
+mod stores;
 
 pub use fault::ParseFault;
-pub use parse::parse;
+pub use parsing::parse;
