@@ -1,0 +1,4 @@
+pub mod Alike
+pub mod LikeCounts
+pub mod LikeLookups
+pub mod LikeReadings
