@@ -3,7 +3,6 @@
 use Rattle.std.proofs.Common.{◌≡◌, ℕ, suc, ◌<◌, ◌≤◌, List, refl, sym, ap, ◌∙◌, subst, arith}
 use Rattle.std.specs.List.{flat_map}
 use Rattle.lfg_terms.specs.declared.grammar.Grammar.{Grammar}
-use Rattle.lfg_model.specs.declared.pair.Pair.{Pair}
 use Rattle.lfg_model.specs.Loads.{AreAlike}
 use Rattle.lfg_model.specs.PairTexts.{pair_text}
 use Rattle.lfg_model.proofs.ReadingLaws.{readings_are_one}
@@ -12,7 +11,7 @@ use Rattle.lfg_output.specs.declared.status.StageName.TheVariants.{Parse}
 use Rattle.lfg_output.specs.declared.status.Status.{Status}
 use Rattle.lfg_output.specs.declared.status.Status.TheVariants.{TooLarge}
 use Rattle.lfg_output.specs.Sentences.{IsWithin, AreReadings, IsRefused, too_long, too_large}
-pub use Rattle.lfg_output.proofs.LikeLookups.{alike_turned}
+pub use Rattle.lfg_output.proofs.LikeLookups.{alike_itself, alike_turned}
 pub use Rattle.lfg_output.proofs.LikeReadings.{derives_alike, whole_alike, literals_alike, facts_alike, assigned_alike, readings_alike}
 pub use Rattle.lfg_output.proofs.LikeCounts.{stands_alike, instance_count_alike, parse_count_alike, one_parse_count}
 

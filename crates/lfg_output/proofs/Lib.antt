@@ -2,3 +2,4 @@ pub mod Alike
 pub mod LikeCounts
 pub mod LikeLookups
 pub mod LikeReadings
+pub mod OneOutput

@@ -20,7 +20,7 @@ use Rattle.lfg_model.specs.Terms.{Name, Annotation}
 use Rattle.lfg_model.proofs.Ascending.{one_list, once_from_total}
 use Rattle.lfg_packed.specs.declared.key.ChoiceKey.{ChoiceKey}
 use Rattle.lfg_packed.specs.ChoicePoints.{ChoicePoint, NextAt, EntryAt, BranchAt, key_cmp, key_of}
-use Rattle.lfg_packed.specs.Choices.{IsSite, annotation_at, HasAlternatives, PlacedChoice, AreChoices}
+use Rattle.lfg_packed.specs.Choices.{IsSite, HasAlternatives, PlacedChoice, AreChoices}
 use Rattle.lfg_packed.specs.Counts.{IsLiteralCount, IsTreeFact, IsInstanceCount}
 use Rattle.lfg_packed.specs.ParseCounts.{IsReadingFact, IsParseCount}
 use Rattle.lfg_packed.specs.Sizes.{literal_size}
@@ -100,7 +100,7 @@ module _ (g h : Grammar) (a : AreAlike g h) (s : List TokenForms) where
   choices_alike cs l =
       let same = key_alike g h a s in
       let moved = lists_alike {Q = λ (c : PlacedChoice). HasAlternatives h s c.at c.alternatives × (2 ≤ c.alternatives)}
-          (λ c x. (alternatives_alike g h a s c.at c.alternatives x.0, x.1)) (λ c x. (alternatives_alike h g (alike_turned g h a) s c.at c.alternatives x.0, x.1)) l in
+      (λ c x. (alternatives_alike g h a s c.at c.alternatives x.0, x.1)) (λ c x. (alternatives_alike h g (alike_turned g h a) s c.at c.alternatives x.0, x.1)) l in
       subst (λ (key : ChoicePoint → ChoiceKey). Lists (on (λ c. c.at) (on key key_cmp)) (λ (c : PlacedChoice). HasAlternatives h s c.at c.alternatives × (2 ≤ c.alternatives)) cs) (λ i c. same c i) moved
 
   pub instance_count_alike : (n : ℕ) → IsInstanceCount g s n → IsInstanceCount h s n

@@ -1,6 +1,6 @@
 -- What grammars that are the same as plain data look up: rules with the same items, items and words
 -- with the same annotation.
-use Rattle.std.proofs.Common.{◌≡◌, ℕ, zero, suc, Bool, true, false, cond, Option, Some, None, List, [], ◌∷◌, slice_get, refl, sym, ap, ◌∙◌, subst}
+use Rattle.std.proofs.Common.{◌≡◌, ℕ, zero, suc, Bool, true, false, cond, Some, List, [], ◌∷◌, slice_get, refl, sym, ap, ◌∙◌, subst}
 use Rattle.std.specs.List.{find}
 use Rattle.lfg_terms.specs.declared.node.Edge.{Edge}
 use Rattle.lfg_terms.specs.declared.literal.Site.{Site}
@@ -9,16 +9,32 @@ use Rattle.lfg_terms.specs.declared.grammar.Item.{Item}
 use Rattle.lfg_terms.specs.declared.grammar.Rule.{Rule}
 use Rattle.lfg_terms.specs.declared.grammar.Lex.{Lex}
 use Rattle.lfg_terms.specs.declared.grammar.Grammar.{Grammar}
-use Rattle.lfg_model.specs.Derive.{rule_of, item_at}
+use Rattle.lfg_model.specs.Derive.{item_at}
 use Rattle.lfg_model.specs.Loads.{AreLikeItems, AreLikeRules, AreLikeWords, AreAlike}
 use Rattle.lfg_model.specs.Templates.{Each, end, and}
-use Rattle.lfg_model.specs.Terms.{Name, same_name, Annotation}
+use Rattle.lfg_model.specs.Terms.{Name, same_name}
 use Rattle.lfg_model.specs.Trees.{items_of, item_annotation, entry_annotation}
 use Rattle.lfg_model.proofs.LikeGrammars.{each_turned, rules_turned, words_turned}
 use Rattle.lfg_model.proofs.OneTree.{same_some}
 use Rattle.lfg_packed.specs.Choices.{annotation_at}
 use Rattle.lfg_packed.specs.SpotFacts.{category_of, category_at}
 use Rattle.lfg_packed.specs.Words.{form_of}
+
+-- a grammar is like itself
+each_itself : {X : Type 0} {R : X → X → Type 0} → ((x : X) → R x x) → (xs : List X) → Each R xs xs
+each_itself f [] = end
+each_itself f (x ∷ xs) = and (f x) (each_itself f xs)
+
+pub alike_itself : (g : Grammar) → AreAlike g g
+alike_itself g = record {
+  root = refl;
+  governable = refl;
+  gensize = refl;
+  maxfacts = refl;
+  cats = refl;
+  rules = each_itself (λ r. record { cat = refl; items = each_itself (λ i. record { cat = refl; annotation = refl }) r.items; walks = λ w. ((λ x. x), (λ x. x)) }) g.rules;
+  words = each_itself (λ x. record { form = refl; cat = refl; annotation = refl }) g.lexicon;
+}
 
 -- likeness goes both ways
 pub alike_turned : (g h : Grammar) → AreAlike g h → AreAlike h g

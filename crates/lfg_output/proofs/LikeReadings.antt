@@ -1,6 +1,6 @@
 -- Grammars that are the same as plain data derive the same trees with the same literals, and give a
 -- sentence the same readings.
-use Rattle.std.proofs.Common.{◌≡◌, ℕ, ◌+◌, List, [], ◌∷◌, ◌++◌, Option, Some, None, length, slice_get, refl, sym, ap, ◌∙◌, subst, Ordering}
+use Rattle.std.proofs.Common.{◌≡◌, ℕ, ◌+◌, List, ◌++◌, Option, Some, None, length, refl, sym, ap, ◌∙◌, subst, Ordering}
 use Rattle.lfg_terms.specs.declared.node.Edge.{Edge}
 use Rattle.lfg_terms.specs.declared.node.Fact.{Fact}
 use Rattle.lfg_terms.specs.declared.literal.Site.TheVariants as site
@@ -16,7 +16,7 @@ use Rattle.lfg_model.specs.Lists.{In, Lists}
 use Rattle.lfg_model.specs.Literals.{checks}
 use Rattle.lfg_model.specs.Loads.{AreLikeItems, AreLikeRules, AreAlike}
 use Rattle.lfg_model.specs.Places.{places, PicksFit}
-use Rattle.lfg_model.specs.Readings.{solution_of, Assigned, IsFact, IsPairOf, IsReading, IsReadings}
+use Rattle.lfg_model.specs.Readings.{solution_of, Assigned, IsFact, IsReading, IsReadings}
 use Rattle.lfg_model.specs.Resolve.{resolved}
 use Rattle.lfg_model.specs.Solve.{solution, IsWellFormed}
 use Rattle.lfg_model.specs.Templates.{Each}

@@ -3,6 +3,7 @@ use Rattle.std.specs.Prelude.{◌≡◌, ℕ, suc, ◌<◌, ◌≤◌, ◌==◌,
 use Rattle.std.specs.List.{flat_map, slice_split}
 use Rattle.std.specs.Str.Lines.{strip_carriage_return}
 use Rattle.lfg_terms.specs.declared.grammar.Grammar.{Grammar}
+use Rattle.lfg_terms.specs.declared.tree.TokenForms.{TokenForms}
 use Rattle.lfg_model.specs.declared.pair.Pair.{Pair}
 use Rattle.lfg_model.specs.PairTexts.{pair_text}
 use Rattle.lfg_model.specs.Readings.{IsReadings}
@@ -45,3 +46,9 @@ pub data IsRefused (g : Grammar) (number : ℕ) (line : List ℕ) : Status → T
   too_long : most_tokens < length (tokens line) → IsRefused g number line (TooLong number (length (tokens line)))
   too_large : {count : ℕ} → length (tokens line) ≤ most_tokens → IsParseCount g (tokens line) count → g.maxfacts < count
       → IsRefused g number line (TooLarge number Parse (suc g.maxfacts))
+
+-- ---- laws
+
+-- Law: a sentence has one parse count.
+abbrev pub OneParseCount : Type 0
+OneParseCount = (g : Grammar) (s : List TokenForms) (m n : ℕ) → IsParseCount g s m → IsParseCount g s n → m ≡ n
