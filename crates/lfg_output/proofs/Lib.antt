@@ -3,3 +3,4 @@ pub mod LikeCounts
 pub mod LikeLookups
 pub mod LikeReadings
 pub mod OneOutput
+pub mod SentenceEnds
