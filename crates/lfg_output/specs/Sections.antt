@@ -1,5 +1,5 @@
 -- The sections that are written of sentences.
-use Rattle.std.specs.Prelude.{◌≡◌, ℕ, suc, ◌+◌, List, [], ◌∷◌, ◌++◌, take, length, decimal, codes}
+use Rattle.std.specs.Prelude.{◌≡◌, ℕ, suc, List, [], ◌∷◌, ◌++◌, take, length, decimal, codes}
 use Rattle.std.specs.List.{flat_map}
 
 -- the heading of a sentence's section: its number, counted from 1, and its text

@@ -1,7 +1,9 @@
 -- The sentences of a text, and what a grammar gives each of them.
-use Rattle.std.specs.Prelude.{◌≡◌, ℕ, suc, ◌<◌, ◌≤◌, ◌==◌, not, List, [], ◌∷◌, ◌++◌, map, filter, length}
+use Rattle.std.specs.Prelude.{◌≡◌, ℕ, suc, ◌<◌, ◌≤◌, ◌==◌, not, List, map, filter, length}
 use Rattle.std.specs.List.{flat_map, slice_split}
+use Rattle.std.specs.Str.Lines.{strip_carriage_return}
 use Rattle.lfg_terms.specs.declared.grammar.Grammar.{Grammar}
+use Rattle.lfg_terms.specs.declared.tree.TokenForms.{TokenForms}
 use Rattle.lfg_model.specs.declared.pair.Pair.{Pair}
 use Rattle.lfg_model.specs.PairTexts.{pair_text}
 use Rattle.lfg_model.specs.Readings.{IsReadings}
@@ -11,15 +13,9 @@ use Rattle.lfg_output.specs.declared.status.StageName.TheVariants.{Parse}
 use Rattle.lfg_output.specs.declared.status.Status.{Status}
 use Rattle.lfg_output.specs.declared.status.Status.TheVariants.{TooLong, TooLarge}
 
--- a line without a carriage return at its end
-abbrev pub without_return : List ℕ → List ℕ
-without_return [] = []
-without_return (13 ∷ []) = []
-without_return (b ∷ bs) = b ∷ without_return bs
-
 -- the lines of a text: what stands between its line feeds, each without a carriage return at its end
 abbrev pub lines : List ℕ → List (List ℕ)
-lines text = map without_return (slice_split (λ b. b == 10) text)
+lines text = map strip_carriage_return (slice_split (λ b. b == 10) text)
 
 -- the sentences of a text: its lines with a token
 abbrev pub sentences_of : List ℕ → List (List ℕ)
@@ -50,3 +46,9 @@ pub data IsRefused (g : Grammar) (number : ℕ) (line : List ℕ) : Status → T
   too_long : most_tokens < length (tokens line) → IsRefused g number line (TooLong number (length (tokens line)))
   too_large : {count : ℕ} → length (tokens line) ≤ most_tokens → IsParseCount g (tokens line) count → g.maxfacts < count
       → IsRefused g number line (TooLarge number Parse (suc g.maxfacts))
+
+-- ---- laws
+
+-- Law: a sentence has one parse count.
+abbrev pub OneParseCount : Type 0
+OneParseCount = (g : Grammar) (s : List TokenForms) (m n : ℕ) → IsParseCount g s m → IsParseCount g s n → m ≡ n
