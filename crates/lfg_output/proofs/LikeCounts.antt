@@ -1,6 +1,6 @@
 -- Grammars that are the same as plain data give a sentence the same parse count, and a sentence has
 -- one.
-use Rattle.std.proofs.Common.{◌≡◌, ℕ, ◌≤◌, max, List, Some, length, slice_get, refl, sym, ap, ◌∙◌, subst}
+use Rattle.std.proofs.Common.{◌≡◌, ℕ, ◌≤◌, max, List, Some, length, slice_get, refl, sym, ap, ◌∙◌, subst, arith}
 use Rattle.std.specs.List.{sum_by}
 use Rattle.std.specs.Ordering.{nat_cmp, on, then_cmp}
 use Rattle.lfg_terms.specs.declared.node.Edge.{Edge}
@@ -22,7 +22,7 @@ use Rattle.lfg_packed.specs.declared.key.ChoiceKey.{ChoiceKey}
 use Rattle.lfg_packed.specs.ChoicePoints.{ChoicePoint, NextAt, EntryAt, BranchAt, key_cmp, key_of}
 use Rattle.lfg_packed.specs.Choices.{IsSite, HasAlternatives, PlacedChoice, AreChoices}
 use Rattle.lfg_packed.specs.Counts.{IsLiteralCount, IsTreeFact, IsInstanceCount}
-use Rattle.lfg_packed.specs.ParseCounts.{IsReadingFact, IsParseCount}
+use Rattle.lfg_packed.specs.ParseCounts.{IsReadingFact, IsParseCount, IsParseAbove, by_instances, by_facts}
 use Rattle.lfg_packed.specs.Sizes.{literal_size}
 use Rattle.lfg_packed.specs.SpotFacts.{under_facts, spot_facts}
 use Rattle.lfg_packed.specs.Words.{form_place, forms_of, word_place, AreEntries}
@@ -123,6 +123,22 @@ module _ (g h : Grammar) (a : AreAlike g h) (s : List TokenForms) where
     are_facts = lists_alike (reading_fact_alike g h a s) (reading_fact_alike h g (alike_turned g h a) s) c.are_facts;
     is = c.is;
   }
+
+  pub parse_above_alike : (most : ℕ) → IsParseAbove g s most → IsParseAbove h s most
+  parse_above_alike most (by_instances c l) = by_instances (instance_count_alike _ c) l
+  parse_above_alike most (by_facts f l) = by_facts (lists_alike (reading_fact_alike g h a s) (reading_fact_alike h g (alike_turned g h a) s) f) l
+
+-- a parse count that is not above a number is not above it in any way
+pub not_above : (g : Grammar) (s : List TokenForms) (most count : ℕ) → IsParseCount g s count → count ≤ most → IsParseAbove g s most → ⊥
+not_above g s most count c below (by_instances {n} d l) =
+    let same = one_instance_count g s c.instances n c.counted d in
+    let is = c.is in
+    omega (arith, same, is, below, l)
+not_above g s most count c below (by_facts {facts} f l) =
+    let same = one_list fact_cmp (once_from_total fact_cmp_total) (IsReadingFact g s) c.facts facts c.are_facts f in
+    let size : length c.facts ≡ length facts = ap length same in
+    let is = c.is in
+    omega (arith, size, is, below, l)
 
 -- a sentence has one parse count
 pub one_parse_count : (g : Grammar) (s : List TokenForms) (m n : ℕ) → IsParseCount g s m → IsParseCount g s n → m ≡ n

@@ -99,7 +99,7 @@ sections_at_end g lines ss st e (at_one {next} p r) = absurd (not_done g (suc (l
   where
     not_done : (g : Grammar) (n : ℕ) (line : List ℕ) (st : Status) → IsRefused g n line st → st ≡ Done → ⊥
     not_done g n line st (too_long l) e = cc
-    not_done g n line st (too_large f c l) e = cc
+    not_done g n line st (too_large f c) e = cc
 
 pub within_is_done : (g : Grammar) (lines ss : List (List ℕ)) (st : Status) → ((line : List ℕ) → In line lines → IsWithin g line) → EndsAtSentences g lines ss st → st ≡ Done
 within_is_done g lines ss st all (at_end are) = refl

@@ -7,7 +7,7 @@ use Rattle.lfg_terms.specs.declared.tree.TokenForms.{TokenForms}
 use Rattle.lfg_model.specs.declared.pair.Pair.{Pair}
 use Rattle.lfg_model.specs.PairTexts.{pair_text}
 use Rattle.lfg_model.specs.Readings.{IsReadings}
-use Rattle.lfg_packed.specs.ParseCounts.{IsParseCount}
+use Rattle.lfg_packed.specs.ParseCounts.{IsParseCount, IsParseAbove}
 use Rattle.lfg_token.specs.Words.{tokens}
 use Rattle.lfg_output.specs.declared.status.StageName.TheVariants.{Parse}
 use Rattle.lfg_output.specs.declared.status.Status.{Status}
@@ -44,8 +44,7 @@ pub record AreReadings (g : Grammar) (line body : List ℕ) : Type 0 where
 -- The status of a sentence that does not keep to the limits, by its number, counted from 1.
 pub data IsRefused (g : Grammar) (number : ℕ) (line : List ℕ) : Status → Type 0 where
   too_long : most_tokens < length (tokens line) → IsRefused g number line (TooLong number (length (tokens line)))
-  too_large : {count : ℕ} → length (tokens line) ≤ most_tokens → IsParseCount g (tokens line) count → g.maxfacts < count
-      → IsRefused g number line (TooLarge number Parse (suc g.maxfacts))
+  too_large : length (tokens line) ≤ most_tokens → IsParseAbove g (tokens line) g.maxfacts → IsRefused g number line (TooLarge number Parse (suc g.maxfacts))
 
 -- ---- laws
 
