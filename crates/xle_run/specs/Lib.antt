@@ -1,10 +1,4 @@
-pub mod Categories
-pub mod Branches
 pub mod Causes
 pub mod Commands
-pub mod Drafts
-pub mod Heads
-pub mod Reading
-pub mod Search
 pub mod Loads
 pub mod Writes

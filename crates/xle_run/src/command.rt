@@ -1,5 +1,5 @@
 ghost use Rattle.std.specs.Prelude.{◌≡◌, None, Some, map, string_bytes, MatchOption};
-ghost use Rattle.lfg_model.specs.Output.{command_of};
+ghost use Rattle.lfg_output.specs.Commands.{command_of, text_name};
 ghost use Rattle.xle_run.specs.Commands.{command_view};
 
 /// The command `readings` with its files, as words of the command line.
@@ -23,5 +23,15 @@ pub(crate) fn command_of(words: &[String]) -> Option<Command<'_>>
         })
     } else {
         None
+    }
+}
+
+/// The name of the sentence file of the command that the words say; none where they fit none.
+pub(crate) fn text_name(words: &[String]) -> &str
+    ensures { result.now ≡ text_name (command_of (map string_bytes words.now)) }
+{
+    match command_of(words) {
+        Some(command) => command.sentences,
+        None => "",
     }
 }

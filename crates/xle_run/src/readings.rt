@@ -1,24 +1,25 @@
-ghost use Rattle.std.specs.Prelude.{◌≡◌, ◌≢◌, ◌≤◌, ◌∷◌, [], ℕ, List, Some, IfErr, length};
+ghost use Rattle.std.specs.Prelude.{◌≡◌, ◌∷◌, [], ℕ, List, Some, IfErr};
 ghost use Rattle.lfg_io.specs.Shelf.{Files, file_in};
-ghost use Rattle.lfg_model.specs.Output.{readings, joined, AreAccepted, ComesTo, IfReadFault, IsOutput};
-ghost use Rattle.lfg_model.specs.Thin.{IsThinGrammar};
+ghost use Rattle.lfg_model.specs.Loaded.{Loaded};
+ghost use Rattle.lfg_output.specs.Commands.{readings};
+ghost use Rattle.lfg_output.specs.Output.{GivesGrammar};
 ghost use Rattle.xle_run.specs.Causes.{IsFailure};
-ghost use Rattle.xle_run.specs.Loads.{GivesGrammar};
-ghost use Rattle.xle_run.specs.Writes.{IfRefused, IfTaken, IfUnaccepted, Puts};
+ghost use Rattle.xle_run.specs.Writes.{Ends, IfRefused};
 
-use crate::loads::{bad_file, load_file, load_grammar};
+use crate::loads::{load_file, load_grammar};
 use crate::sections::write_text;
-use crate::thin::thin_text;
 use lfg_io::{Shelf, Sink};
-use lfg_model::{GrammarFault, Status};
+use lfg_output::Status;
 use lfg_terms::Grammar;
 use std::alloc::Global;
+use std::str;
 
 /// Writes the readings of the sentences of the one file by the grammar of the other.
 ///
 /// # Errors
 ///
-/// The status of a file that was not taken, of a sink that took no more, or of want of memory.
+/// The status of a file that was not taken, of a sentence that does not keep to the limits, of a sink
+/// that took no more, or of want of memory.
 pub(crate) fn readings<F: Shelf, O: Sink>(
     alloc: Global,
     grammar: &str,
@@ -29,13 +30,8 @@ pub(crate) fn readings<F: Shelf, O: Sink>(
     ensures failed { IfErr result (IsFailure (grammar.now ∷ sentences.now ∷ []) (F.sure shelf.old) (F.faults shelf.old) (F.faults shelf.new) (F.last_failed shelf.new) (O.faults out.old) (O.faults out.new)) }
     ensures files_kept { F.files shelf.new ≡ F.files shelf.old }
     ensures untouched { IfErr result (λ status. IfRefused status (out.new ≡ out.old)) }
-    ensures refused { (files : Files) → F.files shelf.old ≡ Some files → IfErr result (λ status. IfUnaccepted status (IsOutput (file_in files) (Some (readings grammar.now sentences.now)) [] status)) }
-    ensures reached { (files : Files) → F.files shelf.old ≡ Some files → IfErr result (λ status. IfReadFault status (ComesTo (file_in files) (Some (readings grammar.now sentences.now)))) }
-    ensures accepted { (files : Files) → F.files shelf.old ≡ Some files → IfTaken result (AreAccepted (file_in files) (Some (readings grammar.now sentences.now))) }
-    ensures written { (files : Files) (before : List ℕ) → F.files shelf.old ≡ Some files → O.written out.old ≡ Some before
-        → Puts files (Some (readings grammar.now sentences.now)) before (O.written out.new) result }
-    ensures room { (files : Files) (sections : List (List ℕ)) → F.files shelf.old ≡ Some files → IsOutput (file_in files) (Some (readings grammar.now sentences.now)) sections Status.Done
-        → length (joined sections) ≤ O.room out.old → IfErr result (λ status. status ≢ Status.WriteFault) }
+    ensures ends { (files : Files) → F.files shelf.old ≡ Some files
+        → Ends (file_in files) (Some (readings grammar.now sentences.now)) (O.written out.old) (O.written out.new) (O.room out.old) (O.room out.new) result }
 {
     match load_grammar(alloc, shelf, grammar) {
         Ok(grammar) => readings_by(alloc, &grammar, sentences, shelf, out),
@@ -51,25 +47,21 @@ fn readings_by<F: Shelf, O: Sink>(
     shelf: &mut F,
     out: &mut O,
 ) -> Result<(), Status>
-    requires { IsThinGrammar grammar.now }
+    requires { Loaded grammar.now }
     ensures failed { IfErr result (IsFailure (sentences.now ∷ []) (F.sure shelf.old) (F.faults shelf.old) (F.faults shelf.new) (F.last_failed shelf.new) (O.faults out.old) (O.faults out.new)) }
     ensures files_kept { F.files shelf.new ≡ F.files shelf.old }
     ensures untouched { IfErr result (λ status. IfRefused status (out.new ≡ out.old)) }
-    ensures refused { (files : Files) (name : List ℕ) → F.files shelf.old ≡ Some files → GivesGrammar files name grammar.now → IfErr result (λ status. IfUnaccepted status (IsOutput (file_in files) (Some (readings name sentences.now)) [] status)) }
-    ensures reached { (files : Files) (name : List ℕ) → F.files shelf.old ≡ Some files → GivesGrammar files name grammar.now → IfErr result (λ status. IfReadFault status (ComesTo (file_in files) (Some (readings name sentences.now)))) }
-    ensures accepted { (files : Files) (name : List ℕ) → F.files shelf.old ≡ Some files → GivesGrammar files name grammar.now
-        → IfTaken result (AreAccepted (file_in files) (Some (readings name sentences.now))) }
-    ensures written { (files : Files) (name before : List ℕ) → F.files shelf.old ≡ Some files → O.written out.old ≡ Some before → GivesGrammar files name grammar.now
-        → Puts files (Some (readings name sentences.now)) before (O.written out.new) result }
-    ensures room { (files : Files) (name : List ℕ) (sections : List (List ℕ)) → F.files shelf.old ≡ Some files → GivesGrammar files name grammar.now
-        → IsOutput (file_in files) (Some (readings name sentences.now)) sections Status.Done → length (joined sections) ≤ O.room out.old → IfErr result (λ status. status ≢ Status.WriteFault) }
+    ensures ends { (files : Files) (name : List ℕ) → F.files shelf.old ≡ Some files → GivesGrammar (file_in files) name grammar.now
+        → Ends (file_in files) (Some (readings name sentences.now)) (O.written out.old) (O.written out.new) (O.room out.old) (O.room out.new) result }
 {
     let bytes = match load_file(alloc, shelf, sentences) {
         Ok(bytes) => bytes,
         Err(status) => return Err(status),
     };
-    match thin_text(&bytes) {
-        Some(text) => write_text(alloc, out, grammar, text),
-        None => Err(bad_file(alloc, sentences, GrammarFault::Entry { number: 0 })),
+    match str::from_utf8(&bytes) {
+        Ok(text) => write_text(alloc, out, grammar, text),
+        Err(fault) => Err(Status::BadText {
+            at: fault.valid_up_to() as u32,
+        }),
     }
 }

@@ -1,23 +1,29 @@
-ghost use Rattle.std.specs.Prelude.{◌≡◌, [], List, ℕ, ◌≤◌, OnOk, OnErr};
+ghost use Rattle.std.specs.Prelude.{◌≡◌, [], List, ℕ, OnOk, OnErr};
 ghost use Rattle.lfg_io.specs.Sink.{Appends, AppendsPrefix};
 ghost use Rattle.lfg_io.specs.Counts.{Rose};
-ghost use Rattle.lfg_model.specs.Output.{fault_line, fault_name, fault_value};
-ghost use Rattle.xle_run.specs.Writes.{bad_file_line};
-ghost use Rattle.lfg_model.specs.declared.status.Status.TheVariants.{BadGrammar};
+ghost use Rattle.lfg_output.specs.Statuses.{fault_name, fault_value, stage_name};
+ghost use Rattle.lfg_output.specs.declared.status.Status.TheVariants.{BadGrammar, BadText, TooLong, TooLarge};
+ghost use Rattle.xle_run.specs.Writes.{bad_file_line, status_line};
 
 use itoa::Buffer;
 use lfg_io::{Sink, SinkFault, put_pieces};
-use lfg_model::{GrammarFault, Status};
+use lfg_model::GrammarFault;
+use lfg_output::{StageName, Status};
 use lfg_terms::Name;
 
-/// Puts the line for the status, in pieces that take no memory.
+/// Puts the line for the status, in pieces that take no memory. `text` is the name of the sentence
+/// file.
 ///
 /// # Errors
 ///
 /// That of the first piece that was not taken; a prefix of the line then stands.
-pub(crate) fn put_fault_line<E: Sink>(err: &mut E, status: &Status) -> Result<(), SinkFault>
-    ensures appended { (words : List (List ℕ)) → OnOk result (Appends (E.written err.old) (E.written err.new) (fault_line words status.now)) }
-    ensures cut { (words : List (List ℕ)) → OnErr result (AppendsPrefix (E.written err.old) (E.written err.new) (fault_line words status.now)) }
+pub(crate) fn put_fault_line<E: Sink>(
+    err: &mut E,
+    text: &str,
+    status: &Status,
+) -> Result<(), SinkFault>
+    ensures appended { OnOk result (Appends (E.written err.old) (E.written err.new) (status_line text.now status.now)) }
+    ensures cut { OnErr result (AppendsPrefix (E.written err.old) (E.written err.new) (status_line text.now status.now)) }
     ensures rose { OnErr result (Rose (E.faults err.old) (E.faults err.new)) }
 {
     match status {
@@ -32,15 +38,106 @@ pub(crate) fn put_fault_line<E: Sink>(err: &mut E, status: &Status) -> Result<()
             &[b"xle: ", b"too long: ", name.text().as_bytes(), b"\n"],
         ),
         Status::BadGrammar { name, fault } => put_bad_grammar(err, name, fault),
+        Status::BadText { at } => put_bad_text(err, text, *at),
+        Status::TooLong { sentence, tokens } => put_too_long(err, *sentence, *tokens),
+        Status::TooLarge {
+            sentence,
+            stage,
+            count,
+        } => put_too_large(err, *sentence, *stage, *count),
         Status::WriteFault => put_pieces(err, &[b"xle: ", b"cannot write", b"\n"]),
         Status::Memory => put_pieces(err, &[b"xle: ", b"out of memory", b"\n"]),
     }
 }
 
+/// Puts the line for a sentence file that is not UTF-8 from this byte on.
+fn put_bad_text<E: Sink>(err: &mut E, text: &str, at: u32) -> Result<(), SinkFault>
+    ensures appended { OnOk result (Appends (E.written err.old) (E.written err.new) (status_line text.now (BadText at))) }
+    ensures cut { OnErr result (AppendsPrefix (E.written err.old) (E.written err.new) (status_line text.now (BadText at))) }
+    ensures rose { OnErr result (Rose (E.faults err.old) (E.faults err.new)) }
+{
+    let mut buffer = Buffer::new();
+    let at = buffer.format(at);
+    put_pieces(
+        err,
+        &[
+            b"xle: ",
+            text.as_bytes(),
+            b": NotUtf8 ",
+            at.as_bytes(),
+            b"\n",
+        ],
+    )
+}
+
+/// Puts the line for a sentence with so many tokens.
+fn put_too_long<E: Sink>(err: &mut E, sentence: u32, tokens: u32) -> Result<(), SinkFault>
+    ensures appended { OnOk result (Appends (E.written err.old) (E.written err.new) (status_line [] (TooLong sentence tokens))) }
+    ensures cut { OnErr result (AppendsPrefix (E.written err.old) (E.written err.new) (status_line [] (TooLong sentence tokens))) }
+    ensures rose { OnErr result (Rose (E.faults err.old) (E.faults err.new)) }
+{
+    let mut number = Buffer::new();
+    let sentence = number.format(sentence);
+    let mut count = Buffer::new();
+    let tokens = count.format(tokens);
+    put_pieces(
+        err,
+        &[
+            b"xle: ",
+            b"sentence ",
+            sentence.as_bytes(),
+            b" has ",
+            tokens.as_bytes(),
+            b" tokens",
+            b"\n",
+        ],
+    )
+}
+
+/// Puts the line for a sentence that is too large at this stage.
+fn put_too_large<E: Sink>(
+    err: &mut E,
+    sentence: u32,
+    stage: StageName,
+    count: u32,
+) -> Result<(), SinkFault>
+    ensures appended { OnOk result (Appends (E.written err.old) (E.written err.new) (status_line [] (TooLarge sentence stage count))) }
+    ensures cut { OnErr result (AppendsPrefix (E.written err.old) (E.written err.new) (status_line [] (TooLarge sentence stage count))) }
+    ensures rose { OnErr result (Rose (E.faults err.old) (E.faults err.new)) }
+{
+    let mut number = Buffer::new();
+    let sentence = number.format(sentence);
+    let mut facts = Buffer::new();
+    let count = facts.format(count);
+    put_pieces(
+        err,
+        &[
+            b"xle: ",
+            b"sentence ",
+            sentence.as_bytes(),
+            b" is too large: ",
+            stage_text(stage).as_bytes(),
+            b" ",
+            count.as_bytes(),
+            b"\n",
+        ],
+    )
+}
+
+/// The name of the stage.
+fn stage_text(stage: StageName) -> &'static str
+    ensures { result.now ≡ stage_name stage }
+{
+    match stage {
+        StageName::Parse => "Parse",
+        StageName::Transfer => "Transfer",
+    }
+}
+
 /// Puts the line for a file with this fault.
 fn put_bad_grammar<E: Sink>(err: &mut E, name: &Name, fault: &GrammarFault) -> Result<(), SinkFault>
-    ensures appended { OnOk result (Appends (E.written err.old) (E.written err.new) (fault_line [] (BadGrammar name.now fault.now))) }
-    ensures cut { OnErr result (AppendsPrefix (E.written err.old) (E.written err.new) (fault_line [] (BadGrammar name.now fault.now))) }
+    ensures appended { OnOk result (Appends (E.written err.old) (E.written err.new) (status_line [] (BadGrammar name.now fault.now))) }
+    ensures cut { OnErr result (AppendsPrefix (E.written err.old) (E.written err.new) (status_line [] (BadGrammar name.now fault.now))) }
     ensures rose { OnErr result (Rose (E.faults err.old) (E.faults err.new)) }
 {
     let mut buffer = Buffer::new();

@@ -1,24 +1,27 @@
 ghost use Rattle.std.specs.Prelude.{◌≡◌, ◌≢◌, ◌↔◌, ◌⊎◌, ◌≤◌, ◌++◌, ℕ, List, [], Some, None, length, map, string_bytes, IfErr};
 ghost use Rattle.std.specs.List.{Contains};
 ghost use Rattle.lfg_io.specs.Counts.{Rose};
-ghost use Rattle.lfg_io.specs.Sink.{Appends, AppendsPrefix};
-ghost use Rattle.lfg_model.specs.Output.{command_of, joined, AreAccepted, ComesTo, IfReadFault, IfTooLong, IfBadGrammar, IsFileOf, IsOutput, IsPart, IsCutPart, exit_status, fault_line};
 ghost use Rattle.lfg_io.specs.Shelf.{Files, file_in};
-ghost use Rattle.xle_run.specs.Writes.{IfRefused, IfTaken, IfUnaccepted, Puts};
+ghost use Rattle.lfg_io.specs.Sink.{Appends, AppendsPrefix};
+ghost use Rattle.lfg_output.specs.Commands.{command_of, IsFileOf};
+ghost use Rattle.lfg_output.specs.Output.{AreAccepted, ComesTo, IsOutput, IsPart, IsCutPart};
+ghost use Rattle.lfg_output.specs.Sections.{joined};
+ghost use Rattle.lfg_output.specs.Statuses.{exit_status, fault_line, IfReadFault, IfFileTooLong, IfBadGrammar, IfBadSentences};
 ghost use Rattle.xle_run.specs.Causes.{IsRunFailure};
+ghost use Rattle.xle_run.specs.Writes.{Ends, HasTakenFiles, IfRefused};
 
-use crate::command::command_of;
+use crate::command::{command_of, text_name};
 use crate::readings::readings;
 use crate::report::put_fault_line;
 use lfg_io::{Shelf, Sink};
-use lfg_model::Status;
+use lfg_output::Status;
 use std::alloc::Global;
 
 /// Runs the command that the words of the command line say: loads its files from the shelf, puts a
 /// section for each sentence to `out`, and for each status but `Done` a line to `err`.
 ///
 /// `readings G S` writes for each sentence of the file S its pairs of tree and f-structure by the
-/// grammar of the file G. Both files have to be thin for now.
+/// grammar of the file G. The first sentence that does not keep to the limits ends it.
 pub fn run<F: Shelf, O: Sink, E: Sink>(
     alloc: Global,
     words: &[String],
@@ -38,32 +41,42 @@ pub fn run<F: Shelf, O: Sink, E: Sink>(
         → IfReadFault result (ComesTo (file_in files) (command_of (map string_bytes words.now))) }
     ensures files_kept { F.files shelf.new ≡ F.files shelf.old }
 
-    // A file is too long, or not accepted: it is one of the command's, and that is the output.
-    ensures long_file { IfTooLong result (IsFileOf (map string_bytes words.now)) }
+    // A file is too long, or the grammar is not loaded: the file is one of the command's, and that is
+    // the output.
+    ensures long_file { IfFileTooLong result (IsFileOf (map string_bytes words.now)) }
     ensures too_long { (files : Files) → F.files shelf.old ≡ Some files
-        → IfTooLong result (λ name. IsOutput (file_in files) (command_of (map string_bytes words.now)) [] result) }
+        → IfFileTooLong result (λ name. IsOutput (file_in files) (command_of (map string_bytes words.now)) [] result) }
     ensures bad_file { IfBadGrammar result (λ name fault. IsFileOf (map string_bytes words.now) name) }
     ensures not_accepted { (files : Files) → F.files shelf.old ≡ Some files
         → IfBadGrammar result (λ name fault. IsOutput (file_in files) (command_of (map string_bytes words.now)) [] result) }
-    ensures accepted { (files : Files) → F.files shelf.old ≡ Some files → (result ≡ Status.Done) ⊎ (result ≡ Status.WriteFault)
-        → AreAccepted (file_in files) (command_of (map string_bytes words.now)) }
 
-    // What stands on `out` behind what it had: all sections, none, whole ones from the first on, or
-    // whole ones and the beginning of the next.
+    // All was written only where the files are accepted and each sentence keeps to the limits, and the
+    // output took no more only where the files are accepted.
+    ensures accepted { (files : Files) → F.files shelf.old ≡ Some files → result ≡ Status.Done
+        → AreAccepted (file_in files) (command_of (map string_bytes words.now)) }
+    ensures taken { (files : Files) → F.files shelf.old ≡ Some files → result ≡ Status.WriteFault
+        → HasTakenFiles (file_in files) (command_of (map string_bytes words.now)) }
+
+    // What stands on `out` behind what it had: all sections, those up to a sentence that does not keep to
+    // the limits, none, whole ones from the first on, or whole ones and the beginning of the next.
     ensures done { (files : Files) (before : List ℕ) → F.files shelf.old ≡ Some files → O.written out.old ≡ Some before → result ≡ Status.Done
         → (sections : List (List ℕ)) × IsOutput (file_in files) (command_of (map string_bytes words.now)) sections Status.Done
         × (O.written out.new ≡ Some (before ++ joined sections)) }
-    ensures refused { result ≢ Status.Done → result ≢ Status.WriteFault → result ≢ Status.Memory → out.new ≡ out.old }
+    ensures stopped { (files : Files) (before : List ℕ) → F.files shelf.old ≡ Some files → O.written out.old ≡ Some before
+        → IfBadSentences result ((sections : List (List ℕ)) × IsOutput (file_in files) (command_of (map string_bytes words.now)) sections result
+        × (O.written out.new ≡ Some (before ++ joined sections))) }
+    ensures refused { IfRefused result (out.new ≡ out.old) }
     ensures memory { (files : Files) (before : List ℕ) → F.files shelf.old ≡ Some files → O.written out.old ≡ Some before → result ≡ Status.Memory
         → (bytes : List ℕ) × IsPart (file_in files) (command_of (map string_bytes words.now)) bytes × (O.written out.new ≡ Some (before ++ bytes)) }
     ensures cut { (files : Files) (before : List ℕ) → F.files shelf.old ≡ Some files → O.written out.old ≡ Some before → result ≡ Status.WriteFault
         → (bytes : List ℕ) × IsCutPart (file_in files) (command_of (map string_bytes words.now)) bytes × (O.written out.new ≡ Some (before ++ bytes)) }
     ensures write_fault { result ≡ Status.WriteFault → Rose (O.faults out.old) (O.faults out.new) }
-    ensures room { (files : Files) (sections : List (List ℕ)) → F.files shelf.old ≡ Some files
-        → IsOutput (file_in files) (command_of (map string_bytes words.now)) sections Status.Done
+    ensures room { (files : Files) (sections : List (List ℕ)) (status : Status) → F.files shelf.old ≡ Some files
+        → IsOutput (file_in files) (command_of (map string_bytes words.now)) sections status
         → length (joined sections) ≤ O.room out.old → result ≢ Status.WriteFault }
 
-    // Where the files are accepted and no fault was counted, all is written, or memory is wanted.
+    // Where the files are accepted, each sentence keeps to the limits and no fault was counted, all is
+    // written, or memory is wanted.
     ensures complete { (files : Files) → F.files shelf.old ≡ Some files → AreAccepted (file_in files) (command_of (map string_bytes words.now))
         → ¬ Rose (F.faults shelf.old) (F.faults shelf.new) → ¬ Rose (O.faults out.old) (O.faults out.new)
         → (result ≡ Status.Done) ⊎ (result ≡ Status.Memory) }
@@ -77,7 +90,7 @@ pub fn run<F: Shelf, O: Sink, E: Sink>(
     match carry_out(alloc, words, shelf, out) {
         Ok(()) => Status::Done,
         Err(status) => {
-            let _ = put_fault_line(err, &status);
+            let _ = put_fault_line(err, text_name(words), &status);
             status
         }
     }
@@ -90,17 +103,12 @@ fn carry_out<F: Shelf, O: Sink>(
     shelf: &mut F,
     out: &mut O,
 ) -> Result<(), Status>
-    ensures untouched { IfErr result (λ status. IfRefused status (out.new ≡ out.old)) }
-    ensures refused { (files : Files) → F.files shelf.old ≡ Some files → IfErr result (λ status. IfUnaccepted status (IsOutput (file_in files) (command_of (map string_bytes words.now)) [] status)) }
-    ensures reached { (files : Files) → F.files shelf.old ≡ Some files → IfErr result (λ status. IfReadFault status (ComesTo (file_in files) (command_of (map string_bytes words.now)))) }
-    ensures accepted { (files : Files) → F.files shelf.old ≡ Some files → IfTaken result (AreAccepted (file_in files) (command_of (map string_bytes words.now))) }
-    ensures written { (files : Files) (before : List ℕ) → F.files shelf.old ≡ Some files → O.written out.old ≡ Some before
-        → Puts files (command_of (map string_bytes words.now)) before (O.written out.new) result }
-    ensures room { (files : Files) (sections : List (List ℕ)) → F.files shelf.old ≡ Some files → IsOutput (file_in files) (command_of (map string_bytes words.now)) sections Status.Done
-        → length (joined sections) ≤ O.room out.old → IfErr result (λ status. status ≢ Status.WriteFault) }
     ensures failed { IfErr result (IsRunFailure (map string_bytes words.now) (F.sure shelf.old) (F.faults shelf.old) (F.faults shelf.new) (F.last_failed shelf.new) (O.faults out.old) (O.faults out.new)) }
     ensures usage { command_of (map string_bytes words.now) ≡ None → result ≡ Err Status.Usage }
     ensures files_kept { F.files shelf.new ≡ F.files shelf.old }
+    ensures untouched { IfErr result (λ status. IfRefused status (out.new ≡ out.old)) }
+    ensures ends { (files : Files) → F.files shelf.old ≡ Some files
+        → Ends (file_in files) (command_of (map string_bytes words.now)) (O.written out.old) (O.written out.new) (O.room out.old) (O.room out.new) result }
 {
     match command_of(words) {
         None => Err(Status::Usage),
@@ -118,6 +126,9 @@ pub fn exit_status(status: &Status) -> u8
         Status::ReadFault { .. } => 3,
         Status::FileTooLong { .. } => 4,
         Status::BadGrammar { .. } => 5,
+        Status::BadText { .. } => 7,
+        Status::TooLong { .. } => 9,
+        Status::TooLarge { .. } => 10,
         Status::WriteFault => 11,
         Status::Memory => 12,
     }

@@ -1,93 +1,141 @@
-ghost use Rattle.std.specs.Prelude.{◌≡◌, ◌++◌, ◌^◌, ◌<◌, IfOk, IfSome, OnOk, length};
-ghost use Rattle.std.specs.Option.{option_to_list};
-ghost use Rattle.lfg_model.specs.Output.{heading};
+ghost use Rattle.std.specs.Prelude.{◌≡◌, ◌++◌, ◌≤◌, IfOk, IfErr, OnOk, length};
+ghost use Rattle.std.specs.List.{flat_map};
+ghost use Rattle.lfg_model.specs.Loaded.{Loaded};
+ghost use Rattle.lfg_model.specs.PairTexts.{pair_text};
 ghost use Rattle.lfg_model.specs.Readings.{IsReadings};
-ghost use Rattle.lfg_model.specs.Thin.{IsThinGrammar};
-ghost use Rattle.lfg_model.specs.ThinTrees.{HaveOwnForms};
-ghost use Rattle.lfg_solve.specs.Printable.{ArePrintable};
-ghost use Rattle.xle_run.specs.Writes.{AppendsReadings, IsSectionOf, IsSentence};
+ghost use Rattle.lfg_output.specs.Sections.{heading, section};
+ghost use Rattle.lfg_parse.specs.Packs.{IsParseFault, IsParseWithin};
+ghost use Rattle.lfg_token.specs.Words.{tokens};
+ghost use Rattle.xle_run.specs.Writes.{HavePlainFacts, IsSectionIn, IsSectionOf, IsWithoutSection};
 
-use crate::pair_text::push_pair;
-use crate::search::find_derivation;
-use crate::thin::words_of;
 use lfg_model::Pair;
-use lfg_solve::assigned_pair;
+use lfg_output::{StageName, Status};
+use lfg_parse::{ParseFault, parse};
 use lfg_terms::{Grammar, TokenForms, push_number};
+use lfg_token::{TokenFault, sentence};
+use lfg_unpack::{pair_text, unpack};
 use std::alloc::{AllocError, Global};
 
-/// The section of a sentence: a heading with its number, counted from 1, and its text, its pairs
-/// of tree and f-structure, and an empty line.
+/// The section of a line with this number, counted from 1, if the line is a sentence: a heading with
+/// the number and the line, its readings, and an empty line. A line without a token is none.
 ///
 /// # Errors
 ///
-/// Only for want of memory.
-pub(crate) fn section(
+/// The status of a sentence that does not keep to the limits, or of want of memory.
+pub(crate) fn section_of(
     alloc: Global,
     grammar: &Grammar,
-    number: u64,
+    number: u32,
     line: &str,
+) -> Result<Option<Vec<u8>>, Status>
+    requires loaded { Loaded grammar.now }
+    requires short { length line.now ≤ 4194304 }
+    ensures section { IfOk result (IsSectionIn grammar.now number line.now) }
+    ensures refused { IfErr result (IsWithoutSection grammar.now number line.now) }
+{
+    let tokens = match sentence(alloc, line) {
+        Ok(tokens) => tokens,
+        Err(TokenFault::TooLong { tokens }) => {
+            return Err(Status::TooLong {
+                sentence: number,
+                tokens,
+            });
+        }
+        Err(TokenFault::Memory) => return Err(Status::Memory),
+    };
+    if tokens.is_empty() {
+        return Ok(None);
+    }
+    match section(alloc, grammar, number, line, &tokens) {
+        Ok(section) => Ok(Some(section)),
+        Err(ParseFault::TooLarge { count }) => Err(Status::TooLarge {
+            sentence: number,
+            stage: StageName::Parse,
+            count,
+        }),
+        Err(ParseFault::Memory) => Err(Status::Memory),
+    }
+}
+
+/// The section of the sentence with these tokens.
+fn section(
+    alloc: Global,
+    grammar: &Grammar,
+    number: u32,
+    line: &str,
+    words: &[TokenForms],
+) -> Result<Vec<u8>, ParseFault>
+    requires loaded { Loaded grammar.now }
+    requires tokens { words.now ≡ tokens line.now }
+    requires few { length words.now ≤ 64 }
+    ensures section { IfOk result (λ text. IsSectionOf grammar.now number line.now text.items) }
+    ensures fault { IfErr result (IsParseFault grammar.now words.now) }
+{
+    let pairs = readings_of(alloc, grammar, words)?;
+    let text = text_of(alloc, number, line, &pairs)?;
+    Ok(text)
+}
+
+/// The section of a sentence with these readings.
+fn text_of(
+    alloc: Global,
+    number: u32,
+    line: &str,
+    pairs: &[Pair],
 ) -> Result<Vec<u8>, AllocError>
-    requires thin { IsThinGrammar grammar.now }
-    requires sentence { IsSentence line.now }
-    ensures { IfOk result (λ text. IsSectionOf grammar.now number line.now text.items) }
+    requires { HavePlainFacts pairs.now }
+    ensures { IfOk result (λ text. text.items ≡ section number line.now (flat_map pair_text pairs.now)) }
 {
     let mut text = Vec::new(alloc);
     push_heading(alloc, &mut text, number, line)?;
-    push_readings(alloc, &mut text, grammar, line)?;
+    push_pairs(alloc, &mut text, pairs)?;
     text.push(b'\n')?;
     Ok(text)
+}
+
+/// The readings of the sentence with these tokens, in their order.
+fn readings_of(
+    alloc: Global,
+    grammar: &Grammar,
+    tokens: &[TokenForms],
+) -> Result<Vec<Pair>, ParseFault>
+    requires loaded { Loaded grammar.now }
+    requires few { length tokens.now ≤ 64 }
+    ensures readings { IfOk result (λ pairs. IsReadings grammar.now tokens.now pairs.items) }
+    ensures plain { IfOk result (λ pairs. HavePlainFacts pairs.items) }
+    ensures within { OnOk result (IsParseWithin grammar.now tokens.now grammar.now.maxfacts) }
+    ensures fault { IfErr result (IsParseFault grammar.now tokens.now) }
+{
+    let mut packed = parse(alloc, grammar, tokens)?;
+    let pairs = unpack(alloc, &mut packed)?;
+    Ok(pairs)
+}
+
+/// Appends the texts of the pairs.
+fn push_pairs(alloc: Global, text: &mut Vec<u8>, pairs: &[Pair]) -> Result<(), AllocError>
+    requires { HavePlainFacts pairs.now }
+    ensures { OnOk result (text.new.items ≡ text.old.items ++ flat_map pair_text pairs.now) }
+{
+    for pair in pairs {
+        let lines = pair_text(alloc, pair)?;
+        text.extend_from_slice(&lines)?;
+    }
+    Ok(())
 }
 
 /// Appends the heading of a section.
 fn push_heading(
     alloc: Global,
     text: &mut Vec<u8>,
-    number: u64,
+    number: u32,
     line: &str,
 ) -> Result<(), AllocError>
     ensures { OnOk result (text.new.items ≡ text.old.items ++ heading number line.now) }
 {
     text.extend_from_slice(b"# ")?;
-    push_number(alloc, text, number)?;
+    push_number(alloc, text, u64::from(number))?;
     text.push(b' ')?;
     text.extend_from_slice(line.as_bytes())?;
     text.push(b'\n')?;
     Ok(())
-}
-
-/// Appends the text of the pair that the grammar assigns to the line, if there is one.
-fn push_readings(
-    alloc: Global,
-    text: &mut Vec<u8>,
-    grammar: &Grammar,
-    line: &str,
-) -> Result<(), AllocError>
-    requires thin { IsThinGrammar grammar.now }
-    requires sentence { IsSentence line.now }
-    ensures { OnOk result (AppendsReadings grammar.now line.now text.old.items text.new.items) }
-{
-    let tokens = words_of(alloc, line)?;
-    let Some(pair) = only_reading(alloc, grammar, &tokens)? else {
-        return Ok(());
-    };
-    push_pair(alloc, text, &pair)
-}
-
-/// The pair of tree and f-structure of the one derivation of the sentence, if there is one and the
-/// grammar assigns it.
-fn only_reading(
-    alloc: Global,
-    grammar: &Grammar,
-    tokens: &[TokenForms],
-) -> Result<Option<Pair>, AllocError>
-    requires thin { IsThinGrammar grammar.now }
-    requires own_forms { HaveOwnForms tokens.now }
-    requires few { length tokens.now < 2 ^ 32 }
-    ensures readings { IfOk result (λ found. IsReadings grammar.now tokens.now (option_to_list found)) }
-    ensures printable { IfOk result (λ found. IfSome found (λ pair. ArePrintable pair.facts)) }
-{
-    let Some(derivation) = find_derivation(alloc, grammar, tokens)? else {
-        return Ok(None);
-    };
-    assigned_pair(alloc, grammar, tokens, &derivation)
 }

@@ -1,111 +1,85 @@
-ghost use Rattle.std.specs.Prelude.{◌≡◌, ◌≢◌, ◌==◌, ◌≤◌, ℕ, List, Some, not, IfOk, IfErr, filter, length, map};
-ghost use Rattle.std.specs.Str.Lines.{lines};
-ghost use Rattle.lfg_model.specs.Output.{AreReadings, AreSections, joined, sentences_of};
-ghost use Rattle.lfg_model.specs.Thin.{IsThinGrammar};
-ghost use Rattle.lfg_model.specs.ThinText.{ThinSentences};
+ghost use Rattle.std.specs.Prelude.{◌≡◌, ◌<◌, ◌≤◌, IfErr, filter, length, map};
+ghost use Rattle.lfg_model.specs.Loaded.{Loaded};
+ghost use Rattle.lfg_output.specs.Sentences.{sentences_of};
 ghost use Rattle.xle_run.specs.Causes.{IsUnwritten};
-ghost use Rattle.xle_run.specs.Writes.{AreSentences, IsSentence, PutsSection, PutsSections, PutsWithin};
+ghost use Rattle.xle_run.specs.Writes.{has_token, AreShort, PutsLine, PutsSections};
 
-use crate::section::section;
+use crate::lines::lines_of;
+use crate::section::section_of;
 use lfg_io::Sink;
-use lfg_model::Status;
+use lfg_output::Status;
 use lfg_terms::Grammar;
-use std::alloc::{AllocError, Global};
+use std::alloc::Global;
 
 /// Puts a section for each sentence of a text, numbered from 1.
 ///
 /// # Errors
 ///
-/// The status of a sink that took no more, or of want of memory.
+/// The status of the first sentence that does not keep to the limits, of a sink that took no more,
+/// or of want of memory. The sections of the sentences before it were put.
 pub(crate) fn write_text<O: Sink>(
     alloc: Global,
     out: &mut O,
     grammar: &Grammar,
     text: &str,
 ) -> Result<(), Status>
-    requires thin { IsThinGrammar grammar.now }
-    requires text { ThinSentences text.now }
+    requires loaded { Loaded grammar.now }
+    requires short { length text.now ≤ 4194304 }
     ensures unwritten { IfErr result (IsUnwritten (O.faults out.old) (O.faults out.new)) }
-    ensures written { (before : List ℕ) → O.written out.old ≡ Some before → PutsSections grammar.now (sentences_of text.now) before (O.written out.new) result }
-    ensures room { (all : List (List ℕ)) → AreSections (AreReadings grammar.now) 1 (sentences_of text.now) all
-        → length (joined all) ≤ O.room out.old → IfErr result (λ status. status ≢ Status.WriteFault) }
+    ensures put { PutsSections grammar.now (sentences_of text.now) (O.written out.old) (O.written out.new) (O.room out.old) (O.room out.new) result }
 {
-    let Ok(sentences) = sentences_of(alloc, text) else {
+    let Ok(lines) = lines_of(alloc, text) else {
         return Err(Status::Memory);
     };
-    write_sections(alloc, out, grammar, &sentences)
+    write_lines(alloc, out, grammar, &lines)
 }
 
-/// The sentences of a text: its lines but the empty ones.
-fn sentences_of(alloc: Global, text: &str) -> Result<Vec<&str>, AllocError>
-    ensures { IfOk result (λ sentences. map (λ s. s.now) sentences.items ≡ sentences_of text.now) }
-{
-    let lines = lines_of(alloc, text)?;
-    with_words(alloc, &lines)
-}
-
-/// The lines of a text.
-fn lines_of(alloc: Global, text: &str) -> Result<Vec<&str>, AllocError>
-    ensures { IfOk result (λ v. map (λ s. s.now) v.items ≡ lines text.now) }
-{
-    text.lines().collect(alloc)
-}
-
-/// The lines that are not empty.
-fn with_words<'a>(alloc: Global, lines: &[&'a str]) -> Result<Vec<&'a str>, AllocError>
-    ensures { IfOk result (λ v. map (λ s. s.now) v.items ≡ filter (λ line. not (length line == 0)) (map (λ s. s.now) lines.now)) }
-{
-    let mut kept = Vec::new(alloc);
-    for line in lines {
-        if !line.is_empty() {
-            kept.push(*line)?;
-        }
-    }
-    Ok(kept)
-}
-
-/// Puts a section for each sentence, numbered from 1.
-fn write_sections<O: Sink>(
+/// Puts a section for each sentence among the lines, numbered from 1.
+fn write_lines<O: Sink>(
     alloc: Global,
     out: &mut O,
     grammar: &Grammar,
-    sentences: &[&str],
+    lines: &[&str],
 ) -> Result<(), Status>
-    requires thin { IsThinGrammar grammar.now }
-    requires sentences { AreSentences (map (λ s. s.now) sentences.now) }
+    requires loaded { Loaded grammar.now }
+    requires few { length lines.now < 4294967295 }
+    requires short { AreShort (map (λ s. s.now) lines.now) }
     ensures unwritten { IfErr result (IsUnwritten (O.faults out.old) (O.faults out.new)) }
-    ensures written { (before : List ℕ) → O.written out.old ≡ Some before → PutsSections grammar.now (map (λ s. s.now) sentences.now) before (O.written out.new) result }
-    ensures room { (all : List (List ℕ)) → AreSections (AreReadings grammar.now) 1 (map (λ s. s.now) sentences.now) all
-        → length (joined all) ≤ O.room out.old → IfErr result (λ status. status ≢ Status.WriteFault) }
+    ensures put { PutsSections grammar.now (filter has_token (map (λ s. s.now) lines.now)) (O.written out.old) (O.written out.new) (O.room out.old) (O.room out.new) result }
 {
-    for i in 0..sentences.len() {
-        if let Err(status) = write_section(alloc, out, grammar, i as u64 + 1, sentences[i]) {
-            return Err(status);
+    let mut number = 1;
+    for i in 0..lines.len() {
+        match write_line(alloc, out, grammar, number, lines[i]) {
+            Ok(next) => number = next,
+            Err(status) => return Err(status),
         }
     }
     Ok(())
 }
 
-/// Puts the section of one sentence.
-fn write_section<O: Sink>(
+/// Puts the section of the line with this number, if the line is a sentence, and answers with the
+/// number of the next sentence.
+fn write_line<O: Sink>(
     alloc: Global,
     out: &mut O,
     grammar: &Grammar,
-    number: u64,
+    number: u32,
     line: &str,
-) -> Result<(), Status>
-    requires thin { IsThinGrammar grammar.now }
-    requires sentence { IsSentence line.now }
+) -> Result<u32, Status>
+    requires loaded { Loaded grammar.now }
+    requires few { number < 4294967295 }
+    requires short { length line.now ≤ 4194304 }
     ensures unwritten { IfErr result (IsUnwritten (O.faults out.old) (O.faults out.new)) }
     ensures later { O.faults out.old ≤ O.faults out.new }
-    ensures written { (before : List ℕ) → O.written out.old ≡ Some before → PutsSection grammar.now number line.now before (O.written out.new) result }
-    ensures room { PutsWithin grammar.now number line.now (O.room out.old) (O.room out.new) result }
+    ensures put { PutsLine grammar.now number line.now (O.written out.old) (O.written out.new) (O.room out.old) (O.room out.new) result }
 {
-    let Ok(section) = section(alloc, grammar, number, line) else {
-        return Err(Status::Memory);
+    let section = match section_of(alloc, grammar, number, line) {
+        Ok(Some(section)) => section,
+        Ok(None) => return Ok(number),
+        Err(status) => return Err(status),
     };
     match out.put(&section) {
-        Ok(()) => Ok(()),
+        Ok(()) => Ok(number + 1),
         Err(_) => Err(Status::WriteFault),
     }
 }
