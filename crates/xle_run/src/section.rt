@@ -43,10 +43,11 @@ pub(crate) fn section_of(
         }
         Err(TokenFault::Memory) => return Err(Status::Memory),
     };
-    if tokens.is_empty() {
+    let words = tokens.as_slice();
+    if words.is_empty() {
         return Ok(None);
     }
-    match section(alloc, grammar, number, line, &tokens) {
+    match section(alloc, grammar, number, line, words) {
         Ok(section) => Ok(Some(section)),
         Err(ParseFault::TooLarge { count }) => Err(Status::TooLarge {
             sentence: number,
