@@ -10,8 +10,7 @@ returns-in_err-instances-clause-fault c =
 
 pub returns-then-len-grammar-clause-fault : goal.returns-then-len-grammar-clause-fault
 returns-then-len-grammar-clause-fault c =
-    let space = c.in_ok-instances.ensures.choices in
-    (
+    let space = c.in_ok-instances.ensures.choices in (
       count_above c.args.grammar.now c.args.tokens.now c.requires.loaded c.in_ok-chart.chart.edges c.in_ok-chart.chart.forks c.in_ok-chart.ensures.chart space.placed space.all
           c.in_ok-instances.instances.literals.items c.in_ok-instances.ensures.literals c.in_ok-instances.instances.tree.items c.in_ok-instances.ensures.facts c.in_ok-judged.judged.good
           c.in_ok-judged.judged.tree c.in_ok-judged.judged.facts c.in_ok-judged.ensures.judged c.in_ok-judged.ensures.store
@@ -46,12 +45,12 @@ returns-clause-readings c pairs are =
     let space = c.in_ok-instances.ensures.choices in
     Lists-same (λ q. (
       (λ u. reading_of c.args.grammar.now c.args.tokens.now c.requires.loaded c.in_ok-chart.chart.edges c.in_ok-chart.chart.forks c.in_ok-chart.ensures.chart space.placed space.all
-        c.in_ok-instances.instances.literals.items c.in_ok-instances.ensures.literals c.in_ok-instances.instances.tree.items c.in_ok-instances.ensures.facts c.in_ok-judged.judged.good
-        c.in_ok-judged.judged.tree c.in_ok-judged.judged.facts c.in_ok-judged.ensures.judged u.assignment q u.good u.is),
+          c.in_ok-instances.instances.literals.items c.in_ok-instances.ensures.literals c.in_ok-instances.instances.tree.items c.in_ok-instances.ensures.facts c.in_ok-judged.judged.good
+          c.in_ok-judged.judged.tree c.in_ok-judged.judged.facts c.in_ok-judged.ensures.judged u.assignment q u.good u.is),
       (λ r.
           (let h = of_reading c.args.grammar.now c.args.tokens.now c.requires.loaded c.in_ok-chart.chart.edges c.in_ok-chart.chart.forks c.in_ok-chart.ensures.chart space.placed space.all
-        c.in_ok-instances.instances.literals.items c.in_ok-instances.ensures.literals c.in_ok-instances.instances.tree.items c.in_ok-instances.ensures.facts c.in_ok-judged.judged.good
-        c.in_ok-judged.judged.tree c.in_ok-judged.judged.facts c.in_ok-judged.ensures.judged q r in
+          c.in_ok-instances.instances.literals.items c.in_ok-instances.ensures.literals c.in_ok-instances.instances.tree.items c.in_ok-instances.ensures.facts c.in_ok-judged.judged.good
+          c.in_ok-judged.judged.tree c.in_ok-judged.judged.facts c.in_ok-judged.ensures.judged q r in
           record { assignment = h.0; good = h.1; is = h.2 })),
     )) are
 

@@ -22,8 +22,8 @@ loop-fact-preserved c =
       picks = same_picks_trans inv.picks c.in_ok-within.ensures.picks;
       made = subst P (sym grows) made;
       restricts = subst Q (sym grows) (subst R (sym c.in_ok-clone.ensures.cases)
-      (restricts_more c.args.facts.now c.loop-fact.kept.items c.loop-fact.fact-index c.fact-item.result c.fact-item.result c.args.set.now c.in_ok-within.within (omega arith) c.fact-item.is inv.restricts
-      c.in_ok-within.ensures.ok.members));
+          (restricts_more c.args.facts.now c.loop-fact.kept.items c.loop-fact.fact-index c.fact-item.result c.fact-item.result c.args.set.now c.in_ok-within.within (omega arith) c.fact-item.is inv.restricts
+          c.in_ok-within.ensures.ok.members));
     }
 
 pub returns-clause-restricts : goal.returns-clause-restricts
