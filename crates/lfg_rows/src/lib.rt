@@ -2,7 +2,15 @@
 #![tactic(auto)]
 
 mod charted;
+#[cfg(test)]
+mod charts;
 mod fault;
+#[cfg(test)]
+mod files;
+#[cfg(test)]
+mod instances;
+#[cfg(test)]
+mod words;
 
 pub use charted::{Charted, chart_of};
 pub use fault::ChartFault;
